@@ -1,0 +1,3 @@
+pub mod Charts
+pub mod Counts
+pub mod Searched

@@ -1,0 +1,9 @@
+pub mod Growth
+pub mod OfBreach
+pub mod LabelSteps
+pub mod LabelEnds
+pub mod SetSteps
+pub mod WalkSteps
+pub mod StandingEnds
+pub mod WatchSteps
+pub mod RoomEnds

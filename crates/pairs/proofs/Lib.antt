@@ -1,0 +1,11 @@
+pub mod Walks
+pub mod Cover
+pub mod Chain
+pub mod Count
+pub mod Putting
+pub mod Leaving
+pub mod Leveling
+pub mod Showing
+pub mod Ends
+pub mod Adding
+pub mod Ruled

@@ -1,0 +1,3 @@
+pub mod Readers
+pub mod Stages
+pub mod Verdicts

@@ -1,0 +1,13 @@
+pub mod OfText
+pub mod OfNames
+pub mod OfWords
+pub mod OfShapes
+pub mod OfParse
+pub mod OfWriting
+pub mod OfFaults
+pub mod OfListed
+pub mod OfJudged
+pub mod OfClaims
+pub mod OfCounts
+pub mod OfOpening
+pub mod OfFit

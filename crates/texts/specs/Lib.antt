@@ -1,0 +1,10 @@
+pub mod Places
+pub mod Words
+pub mod Shapes
+pub mod Parse
+pub mod Fit
+pub mod Listed
+pub mod Judged
+pub mod Claims
+pub mod Counts
+pub mod Faults
