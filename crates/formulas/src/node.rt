@@ -1,7 +1,7 @@
 // A formula in normal form; operands go by their numbers in the list of nodes.
 ghost use Rattle.std.specs.Prelude.{◌≡◌, Decides};
-ghost use Rattle.std.specs.Cmp.Rules.{comparing};
-ghost use Rattle.std.proofs.Common.{rules};
+ghost use Rattle.formulas.specs.Same.{same_node};
+ghost use Rattle.formulas.specs.SameLaws.{same_node_laws};
 
 #[derive(Clone, Copy)]
 pub enum Node {
@@ -17,11 +17,14 @@ pub enum Node {
 }
 
 impl PartialEq for Node {
-    ghost equals = { λ x y r. Decides r (x ≡ y) };
+    ghost eq = { same_node };
 
-    ghost laws = { Prim.search (comparing, rules) };
+    ghost laws = { same_node_laws };
 
-    fn eq(&self, other: &Node) -> bool {
+    fn eq(&self, other: &Node) -> bool
+        ensures value { result ≡ same_node self.now other.now }
+        ensures decides { Decides result (self.now ≡ other.now) }
+    {
         match *self {
             Node::True => match *other {
                 Node::True => true,

@@ -5,8 +5,8 @@ use Rattle.meaning.specs.Bytes.{Text}
 use Rattle.meaning.specs.Kinds.{no_lines}
 use Rattle.meaning.specs.Files.{Rooms, RightLoading, content, lines_in}
 use Rattle.meaning.specs.Histories.{names, rules, table_lines}
-use Rattle.tables.specs.declared.table.Table.{Table}
-use Rattle.tables.specs.Held.{held_lines}
+use Rattle.machines.specs.declared.table.Table.{Table}
+use Rattle.machines.specs.Held.{held_lines}
 use Rattle.rules.specs.declared.sheet.Sheet.{Sheet}
 use Rattle.rules.specs.Led.{SheetIs}
 use Rattle.loading.specs.Loads.{Loaded}

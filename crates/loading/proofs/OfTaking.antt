@@ -10,9 +10,9 @@ use Rattle.meaning.specs.Names.{fit, names_of}
 use Rattle.meaning.specs.Kinds.{Lines}
 use Rattle.meaning.specs.Entering.{RightEntering}
 use Rattle.meaning.specs.Files.{Rooms, Content, Entry, signals, rule, placed, added, added_if, lines_in, said_of, SaidOfLine}
-use Rattle.tables.specs.declared.table.Table.{Table}
-use Rattle.tables.specs.Rows.{state_line}
-use Rattle.tables.specs.Held.{held_lines}
+use Rattle.machines.specs.declared.table.Table.{Table}
+use Rattle.machines.specs.Rows.{state_line}
+use Rattle.machines.specs.Held.{held_lines}
 use Rattle.lines.specs.declared.Entry.{Entry as CodeEntry}
 use Rattle.lines.specs.Fields.{shown}
 use Rattle.rules.specs.declared.sheet.Sheet.{Sheet}

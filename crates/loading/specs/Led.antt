@@ -6,8 +6,8 @@ use Rattle.meaning.specs.Files.{Rooms}
 use Rattle.meaning.specs.Calls.{loading, Event, History}
 use Rattle.meaning.specs.Histories.{table_lines}
 use Rattle.meaning.specs.Right.{Right}
-use Rattle.tables.specs.declared.table.Table.{Table}
-use Rattle.tables.specs.Held.{held_lines}
+use Rattle.machines.specs.declared.table.Table.{Table}
+use Rattle.machines.specs.Held.{held_lines}
 use Rattle.rules.specs.declared.sheet.Sheet.{Sheet}
 use Rattle.rules.specs.Led.{SheetLed}
 

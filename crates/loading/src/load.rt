@@ -1,7 +1,7 @@
 // All lines of a file.
 ghost use Rattle.std.specs.Prelude.{◌≡◌, OnOk};
 ghost use Rattle.meaning.specs.Files.{RightLoading};
-ghost use Rattle.tables.specs.Held.{held_lines, rooms_of};
+ghost use Rattle.machines.specs.Held.{held_lines, rooms_of};
 ghost use Rattle.loading.specs.Loads.{with_line, HasFile, Blank, Loaded};
 ghost use Rattle.loading.specs.Led.{LedByLoading};
 
@@ -9,7 +9,7 @@ use crate::taking::take_line;
 use lines::cut;
 use meaning::refusals::{FileFault, LineFault, TableFault};
 use rules::sheet::Sheet;
-use tables::table::Table;
+use machines::table::Table;
 
 // The fault of a line with its number.
 fn at_line(line: usize, taken: Result<(), LineFault>) -> Result<(), FileFault>

@@ -1,14 +1,14 @@
 // One line of a file, taken by the layer that it belongs to.
 ghost use Rattle.std.specs.Prelude.{◌≡◌, false, []};
 ghost use Rattle.meaning.specs.Files.{Content, Rooms, signals, rule, state, step, ended, formed, lines_in};
-ghost use Rattle.tables.specs.Held.{held_lines, rooms_of};
+ghost use Rattle.machines.specs.Held.{held_lines, rooms_of};
 ghost use Rattle.rules.specs.Led.{SheetIs};
 ghost use Rattle.loading.specs.Takes.{Holds, Takes, TakesOnSheet, TakesOnTable};
 
 use lines::{Entry, read};
 use meaning::refusals::{LineFault, TableFault};
 use rules::sheet::Sheet;
-use tables::table::Table;
+use machines::table::Table;
 
 fn take_signals(sheet: &mut Sheet, opened: bool, names: &[u8]) -> Result<(), LineFault>
     ensures { (q : Rooms) (c : Content) → opened ≡ c.opened → (opened ≡ false → c.rules ≡ []) → TakesOnSheet q c (signals names.now) result sheet.new }

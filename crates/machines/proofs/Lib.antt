@@ -1,2 +1,7 @@
+pub mod OfBytes
 pub mod Nths
 pub mod Asked
+pub mod StuckSteps
+pub mod OfRows
+pub mod OfQuestions
+pub mod OfAdding

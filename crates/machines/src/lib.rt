@@ -1,4 +1,8 @@
-// Machines: the trait with its seven questions, and the machine behind a reference.
-// The kinds of machines (rounds, layers, tables) and the search for breaches stand on it.
+// Machines: the trait with its seven questions; the table, the round of letters, the stuck layer over any machine.
+// Finding breaches stands on the trait, and loading on the table.
 pub mod lent;
 pub mod machine;
+pub mod records;
+pub mod round;
+pub mod stuck;
+pub mod table;

@@ -11,7 +11,7 @@ use Rattle.meaning.specs.Written.{written, Named, Means}
 use Rattle.meaning.specs.Sheets.{SheetIsFull, IsOverKept}
 use Rattle.meaning.specs.Reading.{GoodNames}
 use Rattle.meaning.specs.Full.{different_parts, CanBeMeant}
-use Rattle.meaning.specs.Limits.{nexts, eight_names, seven_rules, eight_rules, NameLimits, RuleLimits, AreaLimits, MachineLimits, FileLimits, Limits}
+use Rattle.meaning.specs.Limits.{nexts_before, eight_names, seven_rules, eight_rules, NameLimits, RuleLimits, AreaLimits, MachineLimits, FileLimits, Limits}
 use Rattle.meaning.specs.Examples.{two_names}
 use Rattle.meaning.proofs.OfFull.{full_sheets_by_lists, over_kept_by_lists}
 
@@ -51,11 +51,11 @@ sixteen_few : length (different_parts (replicate 16 rtrue)) ≡ 1
 unfolding same
 sixteen_few = refl
 
-parts_32 : length (different_parts (nexts 31 0 ∷ [])) ≡ 32
+parts_32 : length (different_parts (nexts_before 31 0 ∷ [])) ≡ 32
 unfolding same
 parts_32 = refl
 
-parts_33 : length (different_parts (nexts 32 0 ∷ [])) ≡ 33
+parts_33 : length (different_parts (nexts_before 32 0 ∷ [])) ≡ 33
 unfolding same
 parts_33 = refl
 
@@ -71,15 +71,15 @@ kept_1 : length (kept (negated rtrue)) ≡ 1
 unfolding same
 kept_1 = refl
 
-kept_first : length (kept (negated (nexts 31 0))) ≡ 32
+kept_first : length (kept (negated (nexts_before 31 0))) ≡ 32
 unfolding same
 kept_first = refl
 
-kept_last : length (kept (negated (nexts 31 7))) ≡ 32
+kept_last : length (kept (negated (nexts_before 31 7))) ≡ 32
 unfolding same
 kept_last = refl
 
-kept_33 : length (kept (negated (nexts 32 0))) ≡ 33
+kept_33 : length (kept (negated (nexts_before 32 0))) ≡ 33
 unfolding same
 kept_33 = refl
 
@@ -96,19 +96,19 @@ rule_limits = record {
   seventeenth = (refl, inl (omega arith));
   kept_32 = (
     refl,
-    not_full two_names two_good (nexts 31 0) [] (omega arith, omega arith, tt) (omega arith) (omega (arith, parts_32)),
-    not_over two_names (written two_names (nexts 31 0)) (nexts 31 0) two_good (record { writes = refl; named = omega arith; shallow = omega arith }) (omega (arith, kept_first)),
+    not_full two_names two_good (nexts_before 31 0) [] (omega arith, omega arith, tt) (omega arith) (omega (arith, parts_32)),
+    not_over two_names (written two_names (nexts_before 31 0)) (nexts_before 31 0) two_good (record { writes = refl; named = omega arith; shallow = omega arith }) (omega (arith, kept_first)),
     refl,
   );
   kept_33 = (
     refl,
-    not_full two_names two_good (nexts 32 0) [] (omega arith, omega arith, tt) (omega arith) (omega (arith, parts_33)),
-    (over_kept_by_lists two_names (written two_names (nexts 32 0)) (nexts 32 0) two_good (record { writes = refl; named = omega arith; shallow = omega arith })).1 (omega (arith, kept_33)),
+    not_full two_names two_good (nexts_before 32 0) [] (omega arith, omega arith, tt) (omega arith) (omega (arith, parts_33)),
+    (over_kept_by_lists two_names (written two_names (nexts_before 32 0)) (nexts_before 32 0) two_good (record { writes = refl; named = omega arith; shallow = omega arith })).1 (omega (arith, kept_33)),
   );
   subformulas_256 = (
     refl,
-    not_full eight_names eight_good (nexts 31 7) seven_rules eight_meant (omega arith) (omega (arith, parts_256)),
-    not_over eight_names (written eight_names (nexts 31 7)) (nexts 31 7) eight_good (record { writes = refl; named = omega arith; shallow = omega arith }) (omega (arith, kept_last)),
+    not_full eight_names eight_good (nexts_before 31 7) seven_rules eight_meant (omega arith) (omega (arith, parts_256)),
+    not_over eight_names (written eight_names (nexts_before 31 7)) (nexts_before 31 7) eight_good (record { writes = refl; named = omega arith; shallow = omega arith }) (omega (arith, kept_last)),
     refl,
   );
   subformulas_257 = (refl, (full_sheets_by_lists eight_names eight_good rtrue eight_rules (tt, omega arith, eight_meant)).1 (inr (omega (arith, parts_257))));

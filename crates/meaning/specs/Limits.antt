@@ -33,9 +33,9 @@ NameLimits = record {
 -- ---- rules: 32 operators one below another, 16 rules, 32 kept formulas, 256 different subformulas
 
 -- so many times `X` before a name
-abbrev pub nexts : ℕ → ℕ → Rule
-nexts zero i = name i
-nexts (suc n) i = rnext (nexts n i)
+abbrev pub nexts_before : ℕ → ℕ → Rule
+nexts_before zero i = name i
+nexts_before (suc n) i = rnext (nexts_before n i)
 
 -- `a` to `h`
 abbrev pub eight_names : List Text
@@ -43,10 +43,10 @@ eight_names = codes "a" ∷ codes "b" ∷ codes "c" ∷ codes "d" ∷ codes "e" 
 
 -- rules of 32 subformulas each, none of them shared: 31 times `X` before each of the first seven names, and of all eight
 abbrev pub seven_rules : List Rule
-seven_rules = nexts 31 0 ∷ nexts 31 1 ∷ nexts 31 2 ∷ nexts 31 3 ∷ nexts 31 4 ∷ nexts 31 5 ∷ nexts 31 6 ∷ []
+seven_rules = nexts_before 31 0 ∷ nexts_before 31 1 ∷ nexts_before 31 2 ∷ nexts_before 31 3 ∷ nexts_before 31 4 ∷ nexts_before 31 5 ∷ nexts_before 31 6 ∷ []
 
 abbrev pub eight_rules : List Rule
-eight_rules = nexts 31 7 ∷ seven_rules
+eight_rules = nexts_before 31 7 ∷ seven_rules
 
 abbrev pub RuleLimits : Type 0
 RuleLimits = record {
@@ -54,9 +54,9 @@ RuleLimits = record {
   too_deep : fault (times 33 (codes "! ") ++ codes "stop") ≡ Some (TooDeep 64);
   sixteenth : RightEntering [] (replicate 15 (codes "true")) (codes "true") (Ok 15);
   seventeenth : RightEntering [] (replicate 16 (codes "true")) (codes "true") (Err SheetFull);
-  kept_32 : RightEntering two_names [] (written two_names (nexts 31 0)) (Ok 0);
-  kept_33 : RightEntering two_names [] (written two_names (nexts 32 0)) (Err OverKept);
-  subformulas_256 : RightEntering eight_names (map (written eight_names) seven_rules) (written eight_names (nexts 31 7)) (Ok 7);
+  kept_32 : RightEntering two_names [] (written two_names (nexts_before 31 0)) (Ok 0);
+  kept_33 : RightEntering two_names [] (written two_names (nexts_before 32 0)) (Err OverKept);
+  subformulas_256 : RightEntering eight_names (map (written eight_names) seven_rules) (written eight_names (nexts_before 31 7)) (Ok 7);
   subformulas_257 : RightEntering eight_names (map (written eight_names) eight_rules) (codes "true") (Err SheetFull);
 }
 

@@ -13,8 +13,8 @@ use meaning::refusals::{FileFault, LineFault, TableFault};
 use pairs::pair::Pair;
 use rules::sheet::Sheet;
 use std::alloc::{AllocError, Global};
-use tables::records::{State, Step};
-use tables::table::Table;
+use machines::records::{State, Step};
+use machines::table::Table;
 
 // How long a file may be.
 const FILE_ROOM: usize = 8192;

@@ -1,11 +1,11 @@
 // Rounds and stuck layers, and what is refused before a machine is looked at.
 use breaches::find::find_breach;
 use charts::chart::Chart;
-use layers::StuckLayer;
+use machines::stuck::StuckLayer;
 use machines::machine::Machine;
 use meaning::answers::Verdict;
 use pairs::pair::Pair;
-use rounds::Round;
+use machines::round::Round;
 use rules::sheet::Sheet;
 use std::alloc::Global;
 use std::test::Fail;

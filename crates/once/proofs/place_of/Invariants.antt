@@ -3,4 +3,4 @@ use Rattle.std.proofs.Common.{◌≤◌, length}
 use Rattle.once.proofs.place_of.Given as goal
 
 abbrev pub invariant-loop-i : goal.invariant-loop-i
-invariant-loop-i g l = New g.T-as-Item.alike l.items l.i l.x
+invariant-loop-i g l = New g.T.Item.alike l.items l.i l.x

@@ -6,6 +6,6 @@ use Rattle.formulas.proofs.breach.copied.Goals as goal
 
 pub returns : goal.returns
 returns c = record {
-  front = front_is c.args.nodes.now c.copy-from-slice.new.self _ c.copy-from-slice.ensures.after;
-  size = same_len_mid 0 (length c.args.nodes.now - 0) (replicate 256 True) c.copy-from-slice.new.self c.copy-from-slice.ensures.len;
+  front = front_is c.args.nodes.now c.copy_from_slice.new.self _ c.copy_from_slice.ensures.after;
+  size = same_len_mid 0 (length c.args.nodes.now - 0) (replicate 256 True) c.copy_from_slice.new.self c.copy_from_slice.ensures.len;
 }

@@ -11,9 +11,9 @@ pub loop-k-preserved-then-under-k : goal.loop-k-preserved-then-under-k
 loop-k-preserved-then-under-k c =
     let ns = c.args.nodes.now in
     let k = c.loop-k.k - 1 in
-    let u : c.mark-node.new.under ≡ mark_parts c.loop-k.under (get_or c.args.nodes.now (c.loop-k.k - 1) True) = search rules in
-    let f : c.mark-node.new.flags ≡ mark_kept (c.loop-k.k - 1) c.loop-k.flags (get_or c.args.nodes.now (c.loop-k.k - 1) True) = search rules in
-    subst (λ (us : List Bool). Marking ns c.args.root k us c.mark-node.new.flags) (sym u)
+    let u : c.mark_node.new.under ≡ mark_parts c.loop-k.under (get_or c.args.nodes.now (c.loop-k.k - 1) True) = search rules in
+    let f : c.mark_node.new.flags ≡ mark_kept (c.loop-k.k - 1) c.loop-k.flags (get_or c.args.nodes.now (c.loop-k.k - 1) True) = search rules in
+    subst (λ (us : List Bool). Marking ns c.args.root k us c.mark_node.new.flags) (sym u)
     (subst (λ (fs : List Bool). Marking ns c.args.root k (mark_parts c.loop-k.under (get_or ns k True)) fs) (sym f)
     (marking_on ns c.args.root c.requires.ordered c.loop-k.k c.loop-k.under c.loop-k.flags c.loop-k-test.true c.loop-k.auto.k c.if-under-k.true c.loop-k.invariant))
 

@@ -1,6 +1,6 @@
 use Rattle.std.proofs.Common.{Ok, Err, ◌∙◌, subst}
 use Rattle.meaning.specs.Files.{Rooms, RightLoading}
-use Rattle.tables.specs.Held.{held_lines, rooms_of}
+use Rattle.machines.specs.Held.{held_lines, rooms_of}
 use Rattle.loading.specs.Loads.{Blank}
 use Rattle.loading.proofs.OfHistory.{led_by}
 use Rattle.loading.proofs.load.load.Goals as goal

@@ -1,6 +1,6 @@
 use Rattle.std.proofs.Common.{refl, ◌∙◌, arith}
 use Rattle.std.proofs.lemmas.Result.{err_from_is_err_and}
-use Rattle.tables.specs.Held.{held_lines, rooms_of}
+use Rattle.machines.specs.Held.{held_lines, rooms_of}
 use Rattle.loading.proofs.OfLoop.{goes_start, goes_cut, goes_bad, goes_on, goes_end, refused, made_none, in_rooms}
 use Rattle.loading.proofs.load.load_lines.Goals as goal
 

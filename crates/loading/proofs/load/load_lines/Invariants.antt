@@ -1,5 +1,5 @@
 use Rattle.std.proofs.Common.{◌≡◌, length}
-use Rattle.tables.specs.Held.{held_lines, rooms_of}
+use Rattle.machines.specs.Held.{held_lines, rooms_of}
 use Rattle.loading.proofs.OfLoop.{Goes}
 use Rattle.loading.proofs.load.load_lines.Given as goal
 

@@ -1,6 +1,6 @@
 use Rattle.std.proofs.Common.{refl}
 use Rattle.meaning.specs.Files.{signals, rule, state, step}
-use Rattle.tables.specs.Held.{held_lines, rooms_of}
+use Rattle.machines.specs.Held.{held_lines, rooms_of}
 use Rattle.loading.proofs.OfPlaces.{line_is, none_said}
 use Rattle.loading.proofs.OfTaking.{sheet_takes, table_takes, few_states, said}
 use Rattle.loading.proofs.taking.take_line.Goals as goal

@@ -1,6 +1,6 @@
 use Rattle.std.proofs.Common.{None, Ok, refl}
 use Rattle.std.proofs.lemmas.Result.{err_from_is_err_and}
-use Rattle.tables.specs.Held.{held_lines}
+use Rattle.machines.specs.Held.{held_lines}
 use Rattle.loading.proofs.OfTaking.{rule_placed, rule_said, rule_refused}
 use Rattle.loading.proofs.taking.take_rule.Goals as goal
 

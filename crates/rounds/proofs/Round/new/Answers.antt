@@ -1,6 +1,0 @@
-use native.Mathlib.Omega.{arith}
-use Rattle.rounds.proofs.OfBytes.{none_small}
-use Rattle.rounds.proofs.Round.new.Goals as goal
-
-pub invariant-of-result-2 : goal.invariant-of-result-2
-invariant-of-result-2 c = (none_small c.args.letters.now (omega arith), tt)

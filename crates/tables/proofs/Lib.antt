@@ -1,3 +1,0 @@
-pub mod OfRows
-pub mod OfQuestions
-pub mod OfAdding

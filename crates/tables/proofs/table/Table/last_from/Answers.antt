@@ -1,6 +1,0 @@
-use Rattle.std.proofs.Common.{rules}
-use Rattle.tables.proofs.OfQuestions.{last_known}
-use Rattle.tables.proofs.table.Table.last_from.Goals as goal
-
-pub returns : goal.returns
-returns c = last_known c.args.self.now (search rules)
