@@ -9,12 +9,12 @@ pub loop-j-preserved : goal.loop-j-preserved
 loop-j-preserved c =
     gather_more c.args.keep.now c.args.holds.now c.loop-j.j c.loop-j.label c.loop-j-test.true c.loop-j.auto.j c.loop-j.invariant
 
-pub overflow-mul-label : goal.overflow-mul-label
-overflow-mul-label c =
+pub overflow_mul-label : goal.overflow_mul-label
+overflow_mul-label c =
     omega (arith, gather_fits c.args.keep.now c.args.holds.now c.loop-j.j c.loop-j.label c.loop-j-test.true c.requires.few c.loop-j.invariant)
 
-pub overflow-add-label : goal.overflow-add-label
-overflow-add-label c =
+pub overflow_add-label : goal.overflow_add-label
+overflow_add-label c =
     omega (
       arith,
       gather_fits c.args.keep.now c.args.holds.now c.loop-j.j c.loop-j.label c.loop-j-test.true c.requires.few c.loop-j.invariant,

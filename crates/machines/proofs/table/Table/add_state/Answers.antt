@@ -13,17 +13,43 @@ returns-then-at-self c =
     let t = c.args.self.now in
     record { answer = state_full t c.args.number c.if-number-at.false c.then-at-self.either; lines = refl; refused = refl; rooms = refl; states = refl; steps = refl }
 
-pub invariant-of-self : goal.invariant-of-self
-invariant-of-self c =
+pub invariant_of-self : goal.invariant_of-self
+invariant_of-self c =
     let t = c.args.self.now in
     let r = numbered t.states.now t.steps.now t.state_count t.step_count t.start_count (rows t) t.start_count t.state_count (omega arith) (search rules) in
-    (search rules, (search rules, (search rules, (search rules, (search rules, (r.starts, (r.letters, (r.ends, (r.sources, (r.within, (r.together, (r.newest, tt))))))))))))
+    record {
+      states_within = search rules;
+      states_few = search rules;
+      steps_within = search rules;
+      steps_few = search rules;
+      starts_within = search rules;
+      starts = r.starts;
+      letters = r.letters;
+      ends = r.ends;
+      sources = r.sources;
+      slots_within = r.within;
+      slots = r.together;
+      newest = r.newest;
+    }
 
-pub invariant-of-self-2 : goal.invariant-of-self-2
-invariant-of-self-2 c =
+pub invariant_of-self-2 : goal.invariant_of-self-2
+invariant_of-self-2 c =
     let t = c.args.self.now in
     let r = state_rows t c.args.start c.args.letter (search rules) c.if-at-self.false in
-    (search rules, (search rules, (search rules, (search rules, (more_starts c.args.start t.starts_within, (r.starts, (r.letters, (r.ends, (r.sources, (r.within, (r.together, (r.newest, tt))))))))))))
+    record {
+      states_within = search rules;
+      states_few = search rules;
+      steps_within = search rules;
+      steps_few = search rules;
+      starts_within = more_starts c.args.start t.starts_within;
+      starts = r.starts;
+      letters = r.letters;
+      ends = r.ends;
+      sources = r.sources;
+      slots_within = r.within;
+      slots = r.together;
+      newest = r.newest;
+    }
 
 pub returns : goal.returns
 returns c =
