@@ -7,7 +7,7 @@ returns-in-len1 c =
     let l : length c.args.word.now ≡ 1 = search rules in
     c.operator.ensures ∙ one_is c.args.word.now l
 
-pub returns-in-default : goal.returns-in-default
-returns-in-default c =
+pub returns-in_default : goal.returns-in_default
+returns-in_default c =
     let l : length c.args.word.now ≡ 1 → ⊥ = search rules in
     c.long_word.ensures ∙ long_is c.args.word.now l

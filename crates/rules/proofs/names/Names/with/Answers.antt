@@ -3,8 +3,8 @@ use Rattle.texts.proofs.OfOpening.{fit_unnamed, fit_twice}
 use Rattle.rules.proofs.OfOpening.{joined_names}
 use Rattle.rules.proofs.names.Names.with.Goals as goal
 
-pub returns-in-default : goal.returns-in-default
-returns-in-default c = λ f. fit_unnamed _ _ c.in-default.ensures
+pub returns-in_default : goal.returns-in_default
+returns-in_default c = λ f. fit_unnamed _ _ c.in_default.ensures
 
 pub returns-in-Some-place : goal.returns-in-Some-place
 returns-in-Some-place c = λ f. fit_twice _ _ _ c.in-Some-place.ensures

@@ -7,5 +7,5 @@ returns-in-Some c = fixed_unfit _ _ c.in-Some.ensures
 
 pub returns-in-None : goal.returns-in-None
 returns-in-None c =
-    let l = c.if-not-is-lowercase.ensures in
+    let l = c.if-not-is_lowercase.ensures in
     (c.spell.ensures l, name_fits _ c.if-n-eq0.false (omega arith) l c.in-None.ensures)

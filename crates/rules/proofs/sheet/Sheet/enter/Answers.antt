@@ -12,53 +12,45 @@ use Rattle.rules.proofs.OfKept.{stored_topological, few_kept_stays}
 use Rattle.rules.proofs.OfModel.{one_more_rule, some_rules_more, set_roots}
 use Rattle.rules.proofs.sheet.Sheet.enter.Goals as goal
 
-pub invariant-of-self : goal.invariant-of-self
-invariant-of-self c =
+pub invariant_of-self : goal.invariant_of-self
+invariant_of-self c =
     let s = c.args.self.now in
-    let w = c.in-ok-root.ensures.longer in
+    let w = c.in_ok-root.ensures.longer in
     let m = w.more in
-    let r = c.in-ok-root.ensures.room in
+    let r = c.in_ok-root.ensures.room in
     let n : s.rules < 16 = search rules in
-    let t = stored_topological s.store.nodes s.store.count s.store.few s.store.size s.store.ordered s.store.signals in (
-      length-set _ _ _ ∙ s.size,
-      (
-        omega arith,
-        (
-          set_roots (λ k. k < c.read-breach.new.store.count) s.roots s.rules _ (omega (arith, s.size)) (λ i h. let b = s.rooted i h in omega arith) r.1,
-          (
-            set_roots (FewKept c.read-breach.new.store.nodes c.read-breach.new.store.count) s.roots s.rules _ (omega (arith, s.size))
-                (λ i h. few_kept_stays s.store.nodes c.read-breach.new.store.nodes s.store.count c.read-breach.new.store.count w (get_or s.roots i 0) (s.rooted i h) (omega (arith, s.store.few, s.store.size)) t (s.kept i h)) r.2,
-            (
-              some_rules_more s.names s.store.nodes c.read-breach.new.store.nodes s.store.count c.read-breach.new.store.count s.roots s.rules _ c.args.text.now s.stands (omega (arith, s.size)) c.in-ok-root.ensures.reads,
-              tt,
-            ),
-          ),
-        ),
-      ),
-    )
+    let t = stored_topological s.store.nodes s.store.count s.store.few s.store.size s.store.ordered s.store.signals in
+    record {
+      size = length-set _ _ _ ∙ s.size;
+      few = omega arith;
+      rooted = set_roots (λ k. k < c.read_breach.new.store.count) s.roots s.rules _ (omega (arith, s.size)) (λ i h. let b = s.rooted i h in omega arith) r.1;
+      kept = set_roots (FewKept c.read_breach.new.store.nodes c.read_breach.new.store.count) s.roots s.rules _ (omega (arith, s.size))
+          (λ i h. few_kept_stays s.store.nodes c.read_breach.new.store.nodes s.store.count c.read_breach.new.store.count w (get_or s.roots i 0) (s.rooted i h) (omega (arith, s.store.few, s.store.size)) t (s.kept i h)) r.2;
+      stands = some_rules_more s.names s.store.nodes c.read_breach.new.store.nodes s.store.count c.read_breach.new.store.count s.roots s.rules _ c.args.text.now s.stands (omega (arith, s.size)) c.in_ok-root.ensures.reads;
+    }
 
-pub returns-in-err-root : goal.returns-in-err-root
-returns-in-err-root c =
+pub returns-in_err-root : goal.returns-in_err-root
+returns-in_err-root c =
     let s = c.args.self.now in
     let t = c.args.text.now in
-    let r = c.from-residual.result in
-    let y = c.in-err-root.field-0.0 in
-    let p = err_from_is_err_and c.from-residual.result c.from-residual.ensures.1 in
+    let r = c.from_residual.result in
+    let y = c.in_err-root.field-0.0 in
+    let p = err_from_is_err_and c.from_residual.result c.from_residual.ensures.1 in
     let e : r ≡ Err y = p.1 ∙ ap Err p.2 in
-    let read = c.in-err-root.ensures.reads in
+    let read = c.in_err-root.ensures.reads in
     record { unchanged = refused_unchanged s t r y e read; enters = refused_enters s t r y e read; answers = refused_answers s t r y e read; led = refused_led s t r y e read }
 
 pub returns : goal.returns
 returns c =
     let s = c.args.self.now in
     let t = c.args.text.now in
-    let nodes = c.read-breach.new.store.nodes in
-    let count = c.read-breach.new.store.count in
-    let root = c.in-ok-root.root in
+    let nodes = c.read_breach.new.store.nodes in
+    let count = c.read_breach.new.store.count in
+    let root = c.in_ok-root.root in
     let room : s.rules < length s.roots = omega (arith, s.size) in
     let After : List Text → List Formula → Type 0 = PartsStand s.names nodes count (set s.roots s.rules root) (s.rules + 1) in
     let enters : (ns : List Text) (fs : List Formula) → Stands s ns fs → (f : Formula) × (judged ns (leb 16 (length fs)) (listed fs) t ≡ Ok f) × (s.rules ≡ length fs) × After ns (fs ++ (f ∷ []))
-    = λ ns fs st. let p = one_more_rule s.names s.store.nodes nodes s.store.count count s.roots s.rules root ns fs t st room c.in-ok-root.ensures.reads in (p.0, p.1, sym st.count_is, p.2) in
+    = λ ns fs st. let p = one_more_rule s.names s.store.nodes nodes s.store.count count s.roots s.rules root ns fs t st room c.in_ok-root.ensures.reads in (p.0, p.1, sym st.count_is, p.2) in
     record {
       unchanged = tt;
       enters = enters;

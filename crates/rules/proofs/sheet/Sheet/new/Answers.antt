@@ -8,10 +8,10 @@ use Rattle.rules.proofs.OfLed.{blank_is, untouched_led}
 use Rattle.rules.proofs.OfOpening.{names_none}
 use Rattle.rules.proofs.sheet.Sheet.new.Goals as goal
 
-pub with-names-requires : goal.with-names-requires
-with-names-requires c = subst Fit (sym (names_none _ _ c.none.ensures)) fit_none
+pub with_names-requires : goal.with_names-requires
+with_names-requires c = subst Fit (sym (names_none _ _ c.none.ensures)) fit_none
 
 pub returns : goal.returns
 returns c =
-    let st : Stands c.with-names.result [] [] = subst (λ (ns : List Text). Stands c.with-names.result ns []) (names_none _ _ c.none.ensures) c.with-names.ensures in
-    record { stands = st; is = blank_is c.with-names.result [] st; led = untouched_led c.with-names.result st }
+    let st : Stands c.with_names.result [] [] = subst (λ (ns : List Text). Stands c.with_names.result ns []) (names_none _ _ c.none.ensures) c.with_names.ensures in
+    record { stands = st; is = blank_is c.with_names.result [] st; led = untouched_led c.with_names.result st }

@@ -9,15 +9,15 @@ use Rattle.rules.specs.Led.{SheetIs}
 use Rattle.rules.proofs.OfLed.{blank_is, opening_led}
 use Rattle.rules.proofs.sheet.Sheet.open.Goals as goal
 
-pub with-names-requires : goal.with-names-requires
-with-names-requires c = let o = c.in-Some.ensures in subst Fit (sym o.0) o.1
+pub with_names-requires : goal.with_names-requires
+with_names-requires c = let o = c.in-Some.ensures in subst Fit (sym o.0) o.1
 
 pub returns-in-Some : goal.returns-in-Some
 returns-in-Some c =
     let o = c.in-Some.ensures in
     let right = fit_text c.args.text.now o.1 in
-    let opens : SheetIs (names_of c.args.text.now) [] c.with-names.result = blank_is c.with-names.result _ (subst (λ (ns : List Text). Stands c.with-names.result ns []) o.0 c.with-names.ensures) in
-    record { answer = right; opens = opens; led = opening_led c.args.self.now c.with-names.result c.args.text.now (Ok tt) right opens }
+    let opens : SheetIs (names_of c.args.text.now) [] c.with_names.result = blank_is c.with_names.result _ (subst (λ (ns : List Text). Stands c.with_names.result ns []) o.0 c.with_names.ensures) in
+    record { answer = right; opens = opens; led = opening_led c.args.self.now c.with_names.result c.args.text.now (Ok tt) right opens }
 
 pub returns-in-None : goal.returns-in-None
 returns-in-None c =

@@ -20,9 +20,14 @@ returns-else-n-ge256 c =
     let s : length c.args.self.now.nodes ≡ 256 = search rules in
     record { within = omega arith; longer = longer_set _ _ _; interned = λ gs m r. intern_new _ _ gs _ m r (lacks_in _ _ _ (omega arith) c.in-None.ensures) (omega arith) }
 
-pub invariant-of-self : goal.invariant-of-self
-invariant-of-self c =
+pub invariant_of-self : goal.invariant_of-self
+invariant_of-self c =
     let s : length c.args.self.now.nodes ≡ 256 = search rules in
     let o : OperandsBefore c.args.self.now.nodes c.args.self.now.count = search rules in
     let g : SignalsBelowEight c.args.self.now.nodes c.args.self.now.count = search rules in
-    (length-set _ _ _ ∙ s, (omega arith, (set_each (λ i n. reach n ≤ i) _ _ _ o (omega arith) c.requires.before, (set_each (λ i n. signal_of n < 8) _ _ _ g (omega arith) c.requires.signal, tt))))
+    record {
+      size = length-set _ _ _ ∙ s;
+      few = omega arith;
+      ordered = set_each (λ i n. reach n ≤ i) _ _ _ o (omega arith) c.requires.before;
+      signals = set_each (λ i n. signal_of n < 8) _ _ _ g (omega arith) c.requires.signal;
+    }
