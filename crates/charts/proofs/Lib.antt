@@ -1,3 +1,4 @@
+pub mod WatchSteps
 pub mod SoundSteps
 pub mod LedSteps
 pub mod LedCalls

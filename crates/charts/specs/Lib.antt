@@ -1,4 +1,5 @@
 pub mod Watch
+pub mod Watched
 pub mod Sound
 pub mod Fills
 pub mod Led

@@ -14,7 +14,8 @@ impl<'a> Chart<'a> {
         standings: &'a mut [[u64; 8]],
         next: &'a mut [u16],
     ) -> Chart<'a>
-        ensures is { (result.state ≡ State.Blank) × (result.label_count ≡ 0) × (result.standing_count ≡ 0) }
+        ensures blank { result.state ≡ State.Blank }
+        ensures counts { (result.label_count ≡ 0) × (result.standing_count ≡ 0) }
         ensures areas { (result.labels.now ≡ labels.old) × (result.standings.now ≡ standings.old) × (result.next.now ≡ next.old) }
         ensures lent { (result.labels.ghost_name ≡ labels.entry.ghost_name) × (result.standings.ghost_name ≡ standings.entry.ghost_name) × (result.next.ghost_name ≡ next.entry.ghost_name) }
         ensures led { (h : History) (c : ℕ) → filled_rule h c ≡ None → watch h c ≡ None → ChartLed h c result }

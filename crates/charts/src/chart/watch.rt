@@ -2,6 +2,7 @@
 ghost use Rattle.std.specs.Prelude.{◌≡◌, ℕ};
 ghost use Rattle.meaning.specs.Calls.{History, beginning, scanning};
 ghost use Rattle.charts.specs.Watch.{begun, scanned, reacted};
+ghost use Rattle.charts.specs.Watched.{Begun, Scans};
 ghost use Rattle.charts.specs.Led.{ChartLed, Answered};
 
 use crate::chart::Chart;
@@ -14,7 +15,8 @@ impl<'a> Chart<'a> {
     // Starts a watch, or starts it over.
     pub fn begin(&mut self) -> Result<(), BeginningFault>
         ensures begins { (result, self.new.state) ≡ begun self.old.state }
-        ensures watches { (h : History) (c : ℕ) → ChartLed h c self.old → Answered h c (beginning c) result self.new }
+        ensures watches { Begun self.old self.new result }
+        ensures answers { (h : History) (c : ℕ) → ChartLed h c self.old → Answered h c (beginning c) result self.new }
         ensures stays { (self.new.labels ≡ self.old.labels) × (self.new.standings ≡ self.old.standings) × (self.new.next ≡ self.old.next) × (self.new.label_count ≡ self.old.label_count) × (self.new.standing_count ≡ self.old.standing_count) }
     {
         match self.react(Event::Begin) {
@@ -26,7 +28,8 @@ impl<'a> Chart<'a> {
     // Follows one letter. Once the letters are a breach, no more are taken.
     pub fn scan(&mut self, letter: u8) -> Result<Scanned, ScanningFault>
         ensures scans { (result, self.new.state) ≡ scanned self.old.standings.now self.old.next.now self.old.state letter }
-        ensures watches { (h : History) (c : ℕ) → ChartLed h c self.old → Answered h c (scanning c letter) result self.new }
+        ensures watches { Scans self.old self.new letter result }
+        ensures answers { (h : History) (c : ℕ) → ChartLed h c self.old → Answered h c (scanning c letter) result self.new }
         ensures stays { (self.new.labels ≡ self.old.labels) × (self.new.standings ≡ self.old.standings) × (self.new.next ≡ self.old.next) × (self.new.label_count ≡ self.old.label_count) × (self.new.standing_count ≡ self.old.standing_count) }
     {
         self.react(Event::Scan { letter })

@@ -5,11 +5,11 @@ use Rattle.charting.specs.Filled.{areas_of}
 use Rattle.charting.proofs.RoomEnds.{in_rooms}
 use Rattle.charts.proofs.filling.fill_areas.Goals as goal
 
-pub fill-places-requires : goal.fill-places-requires
-fill-places-requires c =
+pub fill_places-requires : goal.fill_places-requires
+fill_places-requires c =
     record {
-      labels = simp length-take (omega (arith, c.min-label-places.ensures));
-      table = simp (length-take, length-replicate) (omega (arith, c.min-label-places.ensures));
+      labels = simp length-take (omega (arith, c.min-label_places.ensures));
+      table = simp (length-take, length-replicate) (omega (arith, c.min-label_places.ensures));
       standings = simp length-take (omega (arith, c.min-places.ensures));
       next = simp length-take (omega (arith, c.min-places.ensures, c.min.ensures));
     }
@@ -17,9 +17,9 @@ fill-places-requires c =
 pub returns : goal.returns
 returns c =
     let areas = areas_of c.args.labels.now c.args.standings.now c.args.next.now in
-    let l : length (take (c.min-label-places.result - 0) c.args.labels.now) ≡ label_room areas =
-    simp length-take (omega (arith, c.min-label-places.ensures)) in
+    let l : length (take (c.min-label_places.result - 0) c.args.labels.now) ≡ label_room areas =
+    simp length-take (omega (arith, c.min-label_places.ensures)) in
     let s : length (take (c.min-places.result - 0) c.args.standings.now) ≡ standing_room areas =
     simp length-take (omega (arith, c.min-places.ensures, c.min.ensures)) in
-    in_rooms c.args.formula.now areas _ _ l s c.fill-places.new.labels _ c.fill-places.new.standings _ c.fill-places.new.next
-    c.fill-places.auto.labels c.fill-places.auto.standings c.fill-places.result c.fill-places.ensures
+    in_rooms c.args.formula.now areas _ _ l s c.fill_places.new.labels _ c.fill_places.new.standings _ c.fill_places.new.next
+    c.fill_places.auto.labels c.fill_places.auto.standings c.fill_places.result c.fill_places.ensures

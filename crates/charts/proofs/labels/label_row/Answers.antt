@@ -9,7 +9,7 @@ pub loop-letter-preserved : goal.loop-letter-preserved
 loop-letter-preserved c =
     let i = c.loop-letter.invariant in
     let e = c.in-Some-add.ensures in
-    let b = c.label-before.ensures.is in
+    let b = c.label_before.ensures.is in
     let ks = kept_of c.args.formula.now in
     let known : c.args.i < c.loop-letter.list.len = omega (arith, i.2.more, c.requires.known) in
     let room : c.args.i * 256 + c.loop-letter.letter < length c.loop-letter.table = omega arith in
@@ -18,21 +18,21 @@ loop-letter-preserved c =
       e.size ∙ i.1,
       grows_trans i.2 e.grows,
       (λ a. e.apart (i.3 a)),
-      words_more ks c.loop-letter.list.area.now c.loop-letter.list.len c.label-before.result c.in-Some-add.k
+      words_more ks c.loop-letter.list.area.now c.loop-letter.list.len c.label_before.result c.in-Some-add.k
           c.add.new.self.area.now c.add.new.self.len e.adds
           (c.loop-letter.letter ∷ w.0) (omega (arith, c.loop-letter-test.true), w.1) (b w.0 (i.7 ∙ w.2)) i.4,
-      row_more ks c.loop-letter.table c.args.i c.loop-letter.letter c.in-Some-add.k c.label-before.result e.grows known room
+      row_more ks c.loop-letter.table c.args.i c.loop-letter.letter c.in-Some-add.k c.label_before.result e.grows known room
           e.number (λ v q. b v (i.7 ∙ sym (i.2.stays c.args.i 0 c.requires.known) ∙ q)) i.5,
       (λ k h. let ne : k ≢ c.args.i * 256 + c.loop-letter.letter = omega arith in
           get_or-set_other c.loop-letter.table (c.args.i * 256 + c.loop-letter.letter) k c.in-Some-add.k 0 ne ∙ i.6 k h),
       i.7,
     )
 
-pub returns-in-default : goal.returns-in-default
-returns-in-default c =
+pub returns-in_default : goal.returns-in_default
+returns-in_default c =
     let i = c.loop-letter.invariant in
-    let e = c.in-default.ensures in
-    let b = c.label-before.ensures.is in
+    let e = c.in_default.ensures in
+    let b = c.label_before.ensures.is in
     let ks = kept_of c.args.formula.now in
     let w = c.requires.words.at c.args.i c.requires.known in
     let is = b w.0 (i.7 ∙ w.2) in

@@ -7,6 +7,6 @@ loop-w-preserved c =
     let lt : c.loop-w.w < length c.loop-w.words = omega (arith, i.0) in (
       simp length-set i.0,
       below_more _ _
-          (λ k h. let ne : k ≢ c.loop-w.w = omega arith in get_or-set_other c.loop-w.words c.loop-w.w k c.pack-word.result 0 ne ∙ i.1 k h)
-          (get_or-set_same c.loop-w.words c.loop-w.w c.pack-word.result 0 lt ∙ c.pack-word.ensures),
+          (λ k h. let ne : k ≢ c.loop-w.w = omega arith in get_or-set_other c.loop-w.words c.loop-w.w k c.pack_word.result 0 ne ∙ i.1 k h)
+          (get_or-set_same c.loop-w.words c.loop-w.w c.pack_word.result 0 lt ∙ c.pack_word.ensures),
     )

@@ -5,11 +5,11 @@ use Rattle.charts.proofs.standings.pack_word.Goals as goal
 pub loop-b-preserved : goal.loop-b-preserved
 loop-b-preserved c = word_more (λ i. get_or c.args.flags.now i false) (c.args.w * 64) c.loop-b.b c.loop-b.word c.loop-b-test.true c.loop-b.auto.b c.loop-b.invariant
 
-pub overflow-mul-word : goal.overflow-mul-word
-overflow-mul-word c = omega (arith, word_fits (λ i. get_or c.args.flags.now i false) (c.args.w * 64) c.loop-b.b c.loop-b.word c.loop-b-test.true c.loop-b.invariant)
+pub overflow_mul-word : goal.overflow_mul-word
+overflow_mul-word c = omega (arith, word_fits (λ i. get_or c.args.flags.now i false) (c.args.w * 64) c.loop-b.b c.loop-b.word c.loop-b-test.true c.loop-b.invariant)
 
-pub overflow-add-word-in-loop-b : goal.overflow-add-word-in-loop-b
-overflow-add-word-in-loop-b c =
+pub overflow_add-word-in-loop-b : goal.overflow_add-word-in-loop-b
+overflow_add-word-in-loop-b c =
     omega (
       arith,
       word_fits (λ i. get_or c.args.flags.now i false) (c.args.w * 64) c.loop-b.b c.loop-b.word c.loop-b-test.true c.loop-b.invariant,

@@ -7,7 +7,7 @@ pub loop-i-init : goal.loop-i-init
 loop-i-init c = no_flags _
 
 pub loop-i-preserved : goal.loop-i-preserved
-loop-i-preserved c = flags_more _ c.loop-i.i c.loop-i.flags _ (omega arith) c.has-label.ensures c.loop-i.invariant
+loop-i-preserved c = flags_more _ c.loop-i.i c.loop-i.flags _ (omega arith) c.has_label.ensures c.loop-i.invariant
 
 pub returns : goal.returns
 returns c = flags_upto (λ i. bit_of c.args.from.now (get_or c.args.table.now (i * 256 + c.args.letter) 0)) c.loop-i.i c.args.count c.loop-i.flags (omega arith) c.loop-i.invariant _ c.pack.ensures

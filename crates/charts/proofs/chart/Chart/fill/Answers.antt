@@ -8,30 +8,30 @@ use Rattle.charts.specs.Fills.{Fills}
 use Rattle.charts.proofs.LedFills.{fill_answered, left_of, fills_of}
 use Rattle.charts.proofs.chart.Chart.fill.Goals as goal
 
-pub returns-in-default : goal.returns-in-default
-returns-in-default c =
+pub returns-in_default : goal.returns-in_default
+returns-in_default c =
     let d = c.args.self.now in
     record {
       lent = (refl, refl, refl);
       sizes = refl;
       left = refl;
-      answers = λ h k s is led. fill_answered h k s c.args.rule c.args.sheet.now d d is (Err NoRule) refl c.in-default.ensures led;
-      fills = c.in-default.ensures;
+      answers = λ h k s is led. fill_answered h k s c.args.rule c.args.sheet.now d d is (Err NoRule) refl c.in_default.ensures led;
+      fills = c.in_default.ensures;
     }
 
 pub returns : goal.returns
 returns c =
     let d = c.args.self.now in
-    let e = c.fill-with.new.self in
-    let r = c.fill-with.result in
+    let e = c.fill_with.new.self in
+    let r = c.fill_with.result in
     let f = formula_of c.in-Some.formula in
-    let left = left_of f d e r c.fill-with.ensures.left c.fill-with.ensures.filled in
+    let left = left_of f d e r c.fill_with.ensures.left c.fill_with.ensures.filled in
     let fills : (ns : List Text) (fs : List Formula) → Stands c.args.sheet.now ns fs → Fills fs c.args.rule r d e = λ ns fs st.
     let is = c.in-Some.ensures ns fs st in
-    fills_of f d e fs c.args.rule is.0 is.1 r c.fill-with.ensures.filled in
+    fills_of f d e fs c.args.rule is.0 is.1 r c.fill_with.ensures.filled in
     record {
-      lent = c.fill-with.ensures.lent;
-      sizes = c.fill-with.ensures.sizes;
+      lent = c.fill_with.ensures.lent;
+      sizes = c.fill_with.ensures.sizes;
       left = left;
       answers = λ h k s is led. fill_answered h k s c.args.rule c.args.sheet.now d e is r left fills led;
       fills = fills;

@@ -1,5 +1,6 @@
 use Rattle.std.proofs.Common.{arith}
-use Rattle.charts.proofs.LedCalls.{scans}
+use Rattle.charts.proofs.WatchSteps.{scans}
+use Rattle.charts.proofs.LedCalls.{scans as scans_led}
 use Rattle.charts.proofs.chart.Chart.scan.Goals as goal
 
 pub returns : goal.returns
@@ -9,5 +10,6 @@ returns c =
     record {
       scans = e;
       watches = scans c.args.self.now c.react.new.self s.0 s.1 s.2 s.3 s.4 c.args.letter (omega arith) c.react.result e;
+      answers = scans_led c.args.self.now c.react.new.self s.0 s.1 s.2 s.3 s.4 c.args.letter (omega arith) c.react.result e;
       stays = s;
     }
