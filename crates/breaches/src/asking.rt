@@ -8,9 +8,9 @@ use machines::machine::Machine;
 
 // The k-th start.
 pub(crate) fn start_of<M: Machine>(m: &M, k: usize) -> usize
-    requires { k < length (meaning m.now).starts }
-    ensures value { result ≡ slice_index (meaning m.now).starts k }
-    ensures inside { result < (meaning m.now).count }
+    requires { k < length (M.Machine.meaning m.now).starts }
+    ensures value { result ≡ slice_index (M.Machine.meaning m.now).starts k }
+    ensures inside { result < (M.Machine.meaning m.now).count }
 {
     let Some(s) = m.start(k) else { unreachable() };
     s
@@ -18,8 +18,8 @@ pub(crate) fn start_of<M: Machine>(m: &M, k: usize) -> usize
 
 // The letter of a state.
 pub(crate) fn letter_of<M: Machine>(m: &M, s: usize) -> u8
-    requires { s < (meaning m.now).count }
-    ensures { result ≡ (meaning m.now).letter s }
+    requires { s < (M.Machine.meaning m.now).count }
+    ensures { result ≡ (M.Machine.meaning m.now).letter s }
 {
     let Some(a) = m.letter(s) else { unreachable() };
     a
@@ -27,8 +27,8 @@ pub(crate) fn letter_of<M: Machine>(m: &M, s: usize) -> u8
 
 // How many steps a state has.
 pub(crate) fn steps_of<M: Machine>(m: &M, s: usize) -> usize
-    requires { s < (meaning m.now).count }
-    ensures { result ≡ length ((meaning m.now).steps s) }
+    requires { s < (M.Machine.meaning m.now).count }
+    ensures { result ≡ length ((M.Machine.meaning m.now).steps s) }
 {
     let Some(n) = m.step_count(s) else {
         unreachable()
@@ -38,10 +38,10 @@ pub(crate) fn steps_of<M: Machine>(m: &M, s: usize) -> usize
 
 // The k-th step of a state.
 pub(crate) fn step_of<M: Machine>(m: &M, s: usize, k: usize) -> usize
-    requires state { s < (meaning m.now).count }
-    requires step { k < length ((meaning m.now).steps s) }
-    ensures value { result ≡ slice_index ((meaning m.now).steps s) k }
-    ensures inside { result < (meaning m.now).count }
+    requires state { s < (M.Machine.meaning m.now).count }
+    requires step { k < length ((M.Machine.meaning m.now).steps s) }
+    ensures value { result ≡ slice_index ((M.Machine.meaning m.now).steps s) k }
+    ensures inside { result < (M.Machine.meaning m.now).count }
 {
     let Some(t) = m.step(s, k) else { unreachable() };
     t
@@ -61,9 +61,9 @@ pub(crate) fn follow(chart: &Chart, q: u16, a: u8) -> u16
 
 // Whether a walk with the pair t, q is a breach.
 pub(crate) fn breach_at<M: Machine>(m: &M, chart: &Chart, t: usize, q: u16) -> bool
-    requires state { t < (meaning m.now).count }
+    requires state { t < (M.Machine.meaning m.now).count }
     requires standing { q < standings_of chart.now }
-    ensures { result ≡ bad (meaning m.now) (reader_of chart.now) t q }
+    ensures { result ≡ bad (M.Machine.meaning m.now) (reader_of chart.now) t q }
 {
     let a = letter_of(m, t);
     let after = follow(chart, q, a);

@@ -51,7 +51,7 @@ fn run<M: Machine>(
     requires filled { 0 < standings_of chart.now }
     requires longer { length list.old.area.now < length walk.old }
     requires empty { list.old.len ≡ 0 }
-    ensures { Answers (meaning m.now) (reader_of chart.now) (length list.old.area.now) walk.old walk.new result }
+    ensures { Answers (M.Machine.meaning m.now) (reader_of chart.now) (length list.old.area.now) walk.old walk.new result }
 {
     let mut tally = match begin(m, chart, list) {
         Tried::Broken(s) => {
@@ -90,8 +90,8 @@ pub fn find_breach<M: Machine>(
     pairs: &mut [Pair],
     walk: &mut [usize],
 ) -> Result<Verdict, SearchingFault>
-    ensures answers { (h : History) (c : ℕ) (k : Called) → ChartLed h c chart.now → meaning_of h k ≡ meaning machine.now → Right h (looking c k (length pairs.old) walk.old) (result, walk.new) }
-    ensures reads { Searched chart.now (meaning machine.now) (length pairs.old) walk.old result walk.new }
+    ensures answers { (h : History) (c : ℕ) (k : Called) → ChartLed h c chart.now → meaning_of h k ≡ M.Machine.meaning machine.now → Right h (looking c k (length pairs.old) walk.old) (result, walk.new) }
+    ensures reads { Searched chart.now (M.Machine.meaning machine.now) (length pairs.old) walk.old result walk.new }
     ensures within { Within result (length walk.new) }
     ensures early { Early result → pairs.new ≡ pairs.old }
 {

@@ -47,7 +47,7 @@ pub(crate) fn begin<M: Machine>(m: &M, chart: &Chart, list: &mut KeepOnce<Pair>)
     requires filled { 0 < standings_of chart.now }
     requires empty { list.old.len ≡ 0 }
     ensures count { TriedCount result list.new.len }
-    ensures begins { Begins (meaning m.now) (reader_of chart.now) (standings_of chart.now) list.old.area.now list.new.area.now result }
+    ensures begins { Begins (M.Machine.meaning m.now) (reader_of chart.now) (standings_of chart.now) list.old.area.now list.new.area.now result }
 {
     let mut tally = Tally {
         base: 0,
@@ -82,13 +82,13 @@ fn leave<M: Machine>(
     i: usize,
     start: Tally,
 ) -> Tried
-    requires stage { StageOf (meaning m.now) (reader_of chart.now) (standings_of chart.now) list.old.area.now start }
+    requires stage { StageOf (M.Machine.meaning m.now) (reader_of chart.now) (standings_of chart.now) list.old.area.now start }
     requires below { i < start.base }
     requires depth { depth_at list.old.area.now i + 1 ≡ start.depth }
     requires count { start.count ≡ list.old.len }
     ensures count { TriedCount result list.new.len }
     ensures more { list.old.len ≤ list.new.len }
-    ensures leaves { Leaves (meaning m.now) (reader_of chart.now) (standings_of chart.now) list.old.area.now start i list.new.area.now result }
+    ensures leaves { Leaves (M.Machine.meaning m.now) (reader_of chart.now) (standings_of chart.now) list.old.area.now start i list.new.area.now result }
 {
     let p = entry(list, i);
     let a = letter_of(m, p.state);
@@ -121,13 +121,13 @@ pub(crate) fn level<M: Machine>(
     low: usize,
     start: Tally,
 ) -> Found
-    requires stage { StageOf (meaning m.now) (reader_of chart.now) (standings_of chart.now) list.old.area.now start }
+    requires stage { StageOf (M.Machine.meaning m.now) (reader_of chart.now) (standings_of chart.now) list.old.area.now start }
     requires order { low ≤ start.base }
     requires depth { (i : ℕ) → low ≤ i → i < start.base → depth_at list.old.area.now i + 1 ≡ start.depth }
     requires count { start.count ≡ list.old.len }
     ensures count { FoundCount result list.new.len }
     ensures more { list.old.len ≤ list.new.len }
-    ensures levels { Levels (meaning m.now) (reader_of chart.now) (standings_of chart.now) list.old.area.now start low list.new.area.now result }
+    ensures levels { Levels (M.Machine.meaning m.now) (reader_of chart.now) (standings_of chart.now) list.old.area.now start low list.new.area.now result }
 {
     let mut tally = start;
     for i in low..start.base {

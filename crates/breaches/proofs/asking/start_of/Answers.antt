@@ -2,7 +2,7 @@ use Rattle.machines.proofs.Asked.{start_none, start_value, start_below}
 use Rattle.breaches.proofs.asking.start_of.Goals as goal
 
 pub unreachable-requires : goal.unreachable-requires
-unreachable-requires g c = start_none (g.M.Machine.meaning c.args.m.now) c.args.k c.requires c.in-default.ensures
+unreachable-requires g c = start_none (g.M.Machine.meaning c.args.m.now) c.args.k c.requires c.in_default.ensures
 
 pub returns : goal.returns
 returns g c =

@@ -2,7 +2,7 @@ use Rattle.machines.proofs.Asked.{step_none, step_value, step_below}
 use Rattle.breaches.proofs.asking.step_of.Goals as goal
 
 pub unreachable-requires : goal.unreachable-requires
-unreachable-requires g c = step_none (g.M.Machine.meaning c.args.m.now) c.args.s c.args.k c.requires.state c.requires.step c.in-default.ensures
+unreachable-requires g c = step_none (g.M.Machine.meaning c.args.m.now) c.args.s c.args.k c.requires.state c.requires.step c.in_default.ensures
 
 pub returns : goal.returns
 returns g c =

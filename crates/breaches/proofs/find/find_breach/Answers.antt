@@ -8,24 +8,24 @@ use Rattle.breaches.specs.Searched.{Searched}
 use Rattle.breaches.proofs.Ending.{blank_none, filled_some, searchable, no_starts, gone_by, searched, answered, not_early, within}
 use Rattle.breaches.proofs.find.find_breach.Goals as goal
 
-pub returns-then-is-blank : goal.returns-then-is-blank
-returns-then-is-blank g c =
+pub returns-then-is_blank : goal.returns-then-is_blank
+returns-then-is_blank g c =
     let d = c.args.chart.now in
     let m = g.M.Machine.meaning c.args.machine.now in
     let w = c.args.walk.now in
     let p = length c.args.pairs.now in
-    let is : Searched d m p w (Err Blank) w = (blank_none d.state (standings_of d) d.few (sym c.is-blank.ensures ∙ c.if-is-blank.true), refl) in
+    let is : Searched d m p w (Err Blank) w = (blank_none d.state (standings_of d) d.few (sym c.is_blank.ensures ∙ c.if-is_blank.true), refl) in
     record { answers = answered d m p w w (Err Blank) is; reads = is; within = tt; early = λ e. refl }
 
-pub returns-then-start-count-eq0 : goal.returns-then-start-count-eq0
-returns-then-start-count-eq0 g c =
+pub returns-then-start_count-eq0 : goal.returns-then-start_count-eq0
+returns-then-start_count-eq0 g c =
     let d = c.args.chart.now in
     let m = g.M.Machine.meaning c.args.machine.now in
     let w = c.args.walk.now in
     let p = length c.args.pairs.now in
-    let filled : blank d.state ≡ false = sym c.is-blank.ensures ∙ c.if-is-blank.false in
+    let filled : blank d.state ≡ false = sym c.is_blank.ensures ∙ c.if-is_blank.false in
     let is : Searched d m p w (Err NoStart) w = gone_by d m p w (Err NoStart) w filled
-    (λ f reads. (no_starts m.starts (omega (arith, c.start-count.ensures, c.if-start-count-eq0.true)), refl)) in
+    (λ f reads. (no_starts m.starts (omega (arith, c.start_count.ensures, c.if-start_count-eq0.true)), refl)) in
     record { answers = answered d m p w w (Err NoStart) is; reads = is; within = tt; early = λ e. refl }
 
 pub returns-then-count-gt65536 : goal.returns-then-count-gt65536
@@ -34,9 +34,9 @@ returns-then-count-gt65536 g c =
     let m = g.M.Machine.meaning c.args.machine.now in
     let w = c.args.walk.now in
     let p = length c.args.pairs.now in
-    let filled : blank d.state ≡ false = sym c.is-blank.ensures ∙ c.if-is-blank.false in
+    let filled : blank d.state ≡ false = sym c.is_blank.ensures ∙ c.if-is_blank.false in
     let is : Searched d m p w (Err ManyStates) w = gone_by d m p w (Err ManyStates) w filled
-    (λ f reads. ((λ e. c.if-start-count-eq0.false (c.start-count.ensures ∙ ap length e)), omega arith, refl)) in
+    (λ f reads. ((λ e. c.if-start_count-eq0.false (c.start_count.ensures ∙ ap length e)), omega arith, refl)) in
     record { answers = answered d m p w w (Err ManyStates) is; reads = is; within = tt; early = λ e. refl }
 
 pub returns-then-walk-pairs : goal.returns-then-walk-pairs
@@ -45,9 +45,9 @@ returns-then-walk-pairs g c =
     let m = g.M.Machine.meaning c.args.machine.now in
     let w = c.args.walk.now in
     let p = length c.args.pairs.now in
-    let filled : blank d.state ≡ false = sym c.is-blank.ensures ∙ c.if-is-blank.false in
+    let filled : blank d.state ≡ false = sym c.is_blank.ensures ∙ c.if-is_blank.false in
     let is : Searched d m p w (Err ShortWalkArea) w = gone_by d m p w (Err ShortWalkArea) w filled
-    (λ f reads. ((λ e. c.if-start-count-eq0.false (c.start-count.ensures ∙ ap length e)), omega arith, omega arith, refl)) in
+    (λ f reads. ((λ e. c.if-start_count-eq0.false (c.start_count.ensures ∙ ap length e)), omega arith, omega arith, refl)) in
     record { answers = answered d m p w w (Err ShortWalkArea) is; reads = is; within = tt; early = λ e. refl }
 
 pub returns : goal.returns
@@ -58,7 +58,7 @@ returns g c =
     let w' = c.run.new.walk in
     let p = length c.args.pairs.now in
     let x = c.run.result in
-    let filled : blank d.state ≡ false = sym c.is-blank.ensures ∙ c.if-is-blank.false in
+    let filled : blank d.state ≡ false = sym c.is_blank.ensures ∙ c.if-is_blank.false in
     let h = subst (λ (ps : List Pair). Answers m (reader_of d) (length ps) w w' x) c.new-list.ensures.area c.run.ensures in
     let s = searchable m p (length w) (λ e. omega arith) (omega arith) (omega arith) in
     let is = searched d m (g.M.Machine.lawful c.args.machine.now) p w w' x filled s c.run.auto.walk h in
@@ -71,7 +71,7 @@ returns g c =
 
 pub run-requires : goal.run-requires
 run-requires g c = record {
-  filled = filled_some c.args.chart.now.state (standings_of c.args.chart.now) c.args.chart.now.enough (sym c.is-blank.ensures ∙ c.if-is-blank.false);
+  filled = filled_some c.args.chart.now.state (standings_of c.args.chart.now) c.args.chart.now.enough (sym c.is_blank.ensures ∙ c.if-is_blank.false);
   longer = search rules;
   empty = search rules;
 }

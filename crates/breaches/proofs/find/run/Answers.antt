@@ -33,8 +33,8 @@ loop-tally-init g c =
       refl,
     )
 
-pub overflow-add-start : goal.overflow-add-start
-overflow-add-start g c =
+pub overflow_add-start : goal.overflow_add-start
+overflow_add-start g c =
     let k = c.loop-tally.tally in
     let s = c.loop-tally.invariant.0 in
     let l : k.base < k.count = c.loop-tally-test.true in

@@ -21,9 +21,9 @@ pub loop-k-preserved : goal.loop-k-preserved
 loop-k-preserved g c =
     let m = g.M.Machine.meaning c.args.m.now in
     let r = reader_of c.args.chart.now in (
-      begin_again m r (standings_of c.args.chart.now) c.args.list.now.area.now c.loop-k.list.area.now c.loop-k.tally c.start-of-s.result c.loop-k.k c.keep-tally.new.list.area.now c.keep-tally.result
-          c.requires.filled (omega (arith, c.loop-k-test.true, c.start-count-k-end.ensures)) c.start-of-s.ensures.value c.start-of-s.ensures.inside
-          (sym c.breach_at.ensures ∙ c.if-breach-at.false) c.loop-k.invariant.0 c.keep-tally.ensures.keeps,
+      begin_again m r (standings_of c.args.chart.now) c.args.list.now.area.now c.loop-k.list.area.now c.loop-k.tally c.start_of-s.result c.loop-k.k c.keep-tally.new.list.area.now c.keep-tally.result
+          c.requires.filled (omega (arith, c.loop-k-test.true, c.start_count-k-end.ensures)) c.start_of-s.ensures.value c.start_of-s.ensures.inside
+          (sym c.breach_at.ensures ∙ c.if-breach_at.false) c.loop-k.invariant.0 c.keep-tally.ensures.keeps,
       c.keep-tally.ensures.len,
       omega arith,
     )
@@ -32,10 +32,10 @@ pub returns : goal.returns
 returns g c =
     let m = g.M.Machine.meaning c.args.m.now in
     let r = reader_of c.args.chart.now in
-    record { count = c.loop-k.invariant.1; begins = begun m r (standings_of c.args.chart.now) c.args.list.now.area.now c.loop-k.list.area.now c.loop-k.tally c.loop-k.k (omega (arith, c.loop-k-test.false, c.start-count-k-end.ensures)) c.loop-k.invariant.0 }
+    record { count = c.loop-k.invariant.1; begins = begun m r (standings_of c.args.chart.now) c.args.list.now.area.now c.loop-k.list.area.now c.loop-k.tally c.loop-k.k (omega (arith, c.loop-k-test.false, c.start_count-k-end.ensures)) c.loop-k.invariant.0 }
 
-pub returns-then-breach-at : goal.returns-then-breach-at
-returns-then-breach-at g c =
+pub returns-then-breach_at : goal.returns-then-breach_at
+returns-then-breach_at g c =
     let m = g.M.Machine.meaning c.args.m.now in
-    let a : Among c.start-of-s.result m.starts = started m c.start-of-s.result c.loop-k.k (omega (arith, c.loop-k-test.true, c.start-count-k-end.ensures)) c.start-of-s.ensures.value in
-    record { count = tt; begins = (a, sym c.breach_at.ensures ∙ c.if-breach-at.true) }
+    let a : Among c.start_of-s.result m.starts = started m c.start_of-s.result c.loop-k.k (omega (arith, c.loop-k-test.true, c.start_count-k-end.ensures)) c.start_of-s.ensures.value in
+    record { count = tt; begins = (a, sym c.breach_at.ensures ∙ c.if-breach_at.true) }

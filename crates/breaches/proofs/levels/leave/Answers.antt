@@ -38,11 +38,11 @@ loop-k-preserved g c =
     let i = c.args.i in
     let p = c.entry-p.result in
     let ep = c.entry-p.ensures in
-    let e = behind m r E i p c.follow-q.result c.letter-of-a.result ep c.follow-q.ensures.value c.letter-of-a.ensures in
-    let n = long m E i p c.steps-of-k-end.result ep c.steps-of-k-end.ensures in
-    let t = leave_again m r (standings_of c.args.chart.now) E c.args.start c.loop-k.list.area.now c.loop-k.tally i c.step-of-t.result c.follow-q.result c.loop-k.k c.keep-tally.new.list.area.now c.keep-tally.result
-    c.requires.stage c.requires.below c.requires.depth e c.follow-q.ensures.below (omega (arith, c.loop-k-test.true, n)) (stepped m E i p c.step-of-t.result c.loop-k.k ep c.step-of-t.ensures.value) c.step-of-t.ensures.inside
-    (sym c.breach_at.ensures ∙ c.if-breach-at.false) c.loop-k.invariant.0 c.keep-tally.ensures.keeps in
+    let e = behind m r E i p c.follow-q.result c.letter_of-a.result ep c.follow-q.ensures.value c.letter_of-a.ensures in
+    let n = long m E i p c.steps_of-k-end.result ep c.steps_of-k-end.ensures in
+    let t = leave_again m r (standings_of c.args.chart.now) E c.args.start c.loop-k.list.area.now c.loop-k.tally i c.step_of-t.result c.follow-q.result c.loop-k.k c.keep-tally.new.list.area.now c.keep-tally.result
+    c.requires.stage c.requires.below c.requires.depth e c.follow-q.ensures.below (omega (arith, c.loop-k-test.true, n)) (stepped m E i p c.step_of-t.result c.loop-k.k ep c.step_of-t.ensures.value) c.step_of-t.ensures.inside
+    (sym c.breach_at.ensures ∙ c.if-breach_at.false) c.loop-k.invariant.0 c.keep-tally.ensures.keeps in
     (t, c.keep-tally.ensures.len, omega (arith, t.goes.grows.more, c.keep-tally.ensures.len, c.requires.count))
 
 pub returns : goal.returns
@@ -53,8 +53,8 @@ returns g c =
     let i = c.args.i in
     let p = c.entry-p.result in
     let ep = c.entry-p.ensures in
-    let e = behind m r E i p c.follow-q.result c.letter-of-a.result ep c.follow-q.ensures.value c.letter-of-a.ensures in
-    let n = long m E i p c.steps-of-k-end.result ep c.steps-of-k-end.ensures in
+    let e = behind m r E i p c.follow-q.result c.letter_of-a.result ep c.follow-q.ensures.value c.letter_of-a.ensures in
+    let n = long m E i p c.steps_of-k-end.result ep c.steps_of-k-end.ensures in
     record {
       count = c.loop-k.invariant.1;
       more = c.loop-k.invariant.2;
@@ -62,19 +62,19 @@ returns g c =
           c.requires.stage c.requires.below e (omega (arith, c.loop-k-test.false, n)) c.loop-k.invariant.0;
     }
 
-pub returns-then-breach-at : goal.returns-then-breach-at
-returns-then-breach-at g c =
+pub returns-then-breach_at : goal.returns-then-breach_at
+returns-then-breach_at g c =
     let m = g.M.Machine.meaning c.args.m.now in
     let r = reader_of c.args.chart.now in
     let E = c.args.list.now.area.now in
     let i = c.args.i in
     let p = c.entry-p.result in
     let ep = c.entry-p.ensures in
-    let e = behind m r E i p c.follow-q.result c.letter-of-a.result ep c.follow-q.ensures.value c.letter-of-a.ensures in
-    let n = long m E i p c.steps-of-k-end.result ep c.steps-of-k-end.ensures in
+    let e = behind m r E i p c.follow-q.result c.letter_of-a.result ep c.follow-q.ensures.value c.letter_of-a.ensures in
+    let n = long m E i p c.steps_of-k-end.result ep c.steps_of-k-end.ensures in
     record {
       count = tt;
       more = c.loop-k.invariant.2;
-      leaves = breaks m r (standings_of c.args.chart.now) E c.args.start c.loop-k.list.area.now c.loop-k.tally i c.step-of-t.result c.follow-q.result c.loop-k.k
-          e (omega (arith, c.loop-k-test.true, n)) (stepped m E i p c.step-of-t.result c.loop-k.k ep c.step-of-t.ensures.value) (sym c.breach_at.ensures ∙ c.if-breach-at.true) c.loop-k.invariant.0;
+      leaves = breaks m r (standings_of c.args.chart.now) E c.args.start c.loop-k.list.area.now c.loop-k.tally i c.step_of-t.result c.follow-q.result c.loop-k.k
+          e (omega (arith, c.loop-k-test.true, n)) (stepped m E i p c.step_of-t.result c.loop-k.k ep c.step_of-t.ensures.value) (sym c.breach_at.ensures ∙ c.if-breach_at.true) c.loop-k.invariant.0;
     }
