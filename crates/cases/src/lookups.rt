@@ -4,15 +4,15 @@ use crate::machine::{add_states, add_steps, letters_of};
 use crate::sheets::{field, sheet_of};
 use breaches::find::find_breach;
 use charts::chart::Chart;
-use machines::stuck::StuckLayer;
 use machines::machine::Machine;
+use machines::records::{State, Step};
+use machines::round::Round;
+use machines::stuck::StuckLayer;
+use machines::table::Table;
 use meaning::answers::Verdict;
 use meaning::refusals::SearchingFault;
 use pairs::pair::Pair;
-use machines::round::Round;
 use std::alloc::{AllocError, Global};
-use machines::records::{State, Step};
-use machines::table::Table;
 
 // Looks with `room` pairs, at most 1,000, and a walk area longer by one.
 fn look_in<M: Machine>(

@@ -1,7 +1,7 @@
 // Machines from text: `round LETTER/..` or `table START:LETTER/.. FROM>TO/..`.
 use anyhow::anyhow;
-use std::alloc::Global;
 use machines::table::Table;
+use std::alloc::Global;
 
 // The letters of a round, parted by slashes; `-` for none.
 pub(crate) fn letters_of(heap: Global, text: &str) -> anyhow::Result<Vec<u8>> {

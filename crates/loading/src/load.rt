@@ -7,9 +7,9 @@ ghost use Rattle.loading.specs.Led.{LedByLoading};
 
 use crate::taking::take_line;
 use lines::cut;
+use machines::table::Table;
 use meaning::refusals::{FileFault, LineFault, TableFault};
 use rules::sheet::Sheet;
-use machines::table::Table;
 
 // The fault of a line with its number.
 fn at_line(line: usize, taken: Result<(), LineFault>) -> Result<(), FileFault>

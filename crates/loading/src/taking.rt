@@ -6,9 +6,9 @@ ghost use Rattle.rules.specs.Led.{SheetIs};
 ghost use Rattle.loading.specs.Takes.{Holds, Takes, TakesOnSheet, TakesOnTable};
 
 use lines::{Entry, read};
+use machines::table::Table;
 use meaning::refusals::{LineFault, TableFault};
 use rules::sheet::Sheet;
-use machines::table::Table;
 
 fn take_signals(sheet: &mut Sheet, opened: bool, names: &[u8]) -> Result<(), LineFault>
     ensures { (q : Rooms) (c : Content) → opened ≡ c.opened → (opened ≡ false → c.rules ≡ []) → TakesOnSheet q c (signals names.now) result sheet.new }

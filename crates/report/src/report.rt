@@ -8,13 +8,13 @@ use crate::text::{broken_line, clear_line, fault_line, refused_line};
 use breaches::find::find_breach;
 use charts::chart::Chart;
 use loading::load::load;
+use machines::records::{State, Step};
+use machines::table::Table;
 use meaning::answers::Verdict;
 use meaning::refusals::{FileFault, LineFault, TableFault};
 use pairs::pair::Pair;
 use rules::sheet::Sheet;
 use std::alloc::{AllocError, Global};
-use machines::records::{State, Step};
-use machines::table::Table;
 
 // How long a file may be.
 const FILE_ROOM: usize = 8192;

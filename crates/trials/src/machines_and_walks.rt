@@ -1,11 +1,11 @@
 // Rounds and stuck layers, and what is refused before a machine is looked at.
 use breaches::find::find_breach;
 use charts::chart::Chart;
-use machines::stuck::StuckLayer;
 use machines::machine::Machine;
+use machines::round::Round;
+use machines::stuck::StuckLayer;
 use meaning::answers::Verdict;
 use pairs::pair::Pair;
-use machines::round::Round;
 use rules::sheet::Sheet;
 use std::alloc::Global;
 use std::test::Fail;

@@ -14,7 +14,7 @@ returns-in-Ok c =
     record {
       answer = a;
       loads = f.accepted;
-      led = led_by (rooms_of c.args.table.now) file (Ok tt) c.load-lines-loaded.new.sheet c.load-lines-loaded.new.table a f.accepted;
+      led = led_by (rooms_of c.args.table.now) file (Ok tt) c.load_lines-loaded.new.sheet c.load_lines-loaded.new.table a f.accepted;
       rooms = f.rooms ∙ t.rooms;
       states = f.states ∙ t.states;
       steps = f.steps ∙ t.steps;

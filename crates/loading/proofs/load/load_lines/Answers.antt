@@ -8,28 +8,28 @@ pub loop-rest-init : goal.loop-rest-init
 loop-rest-init c =
     (goes_start (rooms_of c.args.table.now) c.args.file.now c.args.sheet.now (held_lines c.args.table.now) (omega arith) c.requires, refl, refl, refl)
 
-pub returns-in-default : goal.returns-in-default
-returns-in-default c =
+pub returns-in_default : goal.returns-in_default
+returns-in_default c =
     let v = c.loop-rest in
     record {
-      answer = goes_cut (rooms_of c.args.table.now) c.args.file.now v.sheet (held_lines v.table) v.opened v.line v.rest.now v.invariant.0 c.in-default.ensures c.loop-rest-test.true;
+      answer = goes_cut (rooms_of c.args.table.now) c.args.file.now v.sheet (held_lines v.table) v.opened v.line v.rest.now v.invariant.0 c.in_default.ensures c.loop-rest-test.true;
       accepted = tt;
       rooms = v.invariant.1;
       states = v.invariant.2;
       steps = v.invariant.3;
     }
 
-pub returns-in-err-at-line : goal.returns-in-err-at-line
-returns-in-err-at-line c =
+pub returns-in_err-at_line : goal.returns-in_err-at_line
+returns-in_err-at_line c =
     let v = c.loop-rest in
     let r = rooms_of c.args.table.now in
-    let t = c.take-line in
-    let p = err_from_is_err_and c.from-residual.result c.from-residual.ensures.1 in
+    let t = c.take_line in
+    let p = err_from_is_err_and c.from_residual.result c.from_residual.ensures.1 in
     let b = goes_bad r c.args.file.now v.sheet t.new.sheet (held_lines v.table) (held_lines t.new.table) v.opened v.line v.rest.now c.in-Some.text.now c.in-Some.more.now t.result
-    c.in-err-at-line.field-0.0 v.invariant.0 c.in-Some.ensures.0 (in_rooms (rooms_of v.table) r v.sheet t.new.sheet (held_lines v.table) (held_lines t.new.table) v.opened c.in-Some.text.now t.result t.ensures.takes v.invariant.1) c.in-err-at-line.ensures in
+    c.in_err-at_line.field-0.0 v.invariant.0 c.in-Some.ensures.0 (in_rooms (rooms_of v.table) r v.sheet t.new.sheet (held_lines v.table) (held_lines t.new.table) v.opened c.in-Some.text.now t.result t.ensures.takes v.invariant.1) c.in_err-at_line.ensures in
     record {
-      answer = refused r c.args.file.now c.from-residual.result c.in-err-at-line.field-0.0 p.0 p.1 p.2 b;
-      accepted = made_none _ c.from-residual.result p.0 p.1;
+      answer = refused r c.args.file.now c.from_residual.result c.in_err-at_line.field-0.0 p.0 p.1 p.2 b;
+      accepted = made_none _ c.from_residual.result p.0 p.1;
       rooms = t.ensures.rooms ∙ v.invariant.1;
       states = t.ensures.states ∙ v.invariant.2;
       steps = t.ensures.steps ∙ v.invariant.3;
@@ -39,9 +39,9 @@ pub loop-rest-preserved : goal.loop-rest-preserved
 loop-rest-preserved c =
     let v = c.loop-rest in
     let r = rooms_of c.args.table.now in
-    let t = c.take-line in (
+    let t = c.take_line in (
       goes_on r c.args.file.now v.sheet t.new.sheet (held_lines v.table) (held_lines t.new.table) v.opened v.line v.rest.now c.in-Some.text.now c.in-Some.more.now t.result
-          c.in-ok-at-line.field-0 v.invariant.0 c.in-Some.ensures.0 c.in-Some.ensures.1 (in_rooms (rooms_of v.table) r v.sheet t.new.sheet (held_lines v.table) (held_lines t.new.table) v.opened c.in-Some.text.now t.result t.ensures.takes v.invariant.1) c.in-ok-at-line.ensures,
+          c.in_ok-at_line.field-0 v.invariant.0 c.in-Some.ensures.0 c.in-Some.ensures.1 (in_rooms (rooms_of v.table) r v.sheet t.new.sheet (held_lines v.table) (held_lines t.new.table) v.opened c.in-Some.text.now t.result t.ensures.takes v.invariant.1) c.in_ok-at_line.ensures,
       t.ensures.rooms ∙ v.invariant.1,
       t.ensures.states ∙ v.invariant.2,
       t.ensures.steps ∙ v.invariant.3,

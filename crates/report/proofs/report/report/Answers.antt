@@ -7,4 +7,4 @@ use Rattle.report.proofs.report.report.Goals as goal
 
 pub returns : goal.returns
 returns c =
-    record { long = short_file (length c.args.file.now) string_bytes (fault_line (record { line = 0; fault = Table NoRoom })) c.report-short.result (omega arith) }
+    record { long = short_file (length c.args.file.now) string_bytes (fault_line (record { line = 0; fault = Table NoRoom })) c.report_short.result (omega arith) }

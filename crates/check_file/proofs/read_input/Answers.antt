@@ -1,6 +1,6 @@
 use Rattle.std.proofs.Common.{◌≡◌, ◌+◌, ◌-◌, ◌≤◌, ◌∙◌, rules}
 use borrow.Rule.Slice.PartMut.{same_len_mid}
-use Rattle.check.proofs.read_input.Goals as goal
+use Rattle.check_file.proofs.read_input.Goals as goal
 
 pub loop-count-preserved : goal.loop-count-preserved
 loop-count-preserved c =
