@@ -5,5 +5,6 @@ pub mod OfBuilt
 pub mod OfReading
 pub mod OfKept
 pub mod OfEntering
+pub mod OfStands
 pub mod OfModel
 pub mod OfLed

@@ -21,12 +21,13 @@ use Rattle.rules.specs.declared.sheet.Sheet.{Sheet}
 use Rattle.rules.specs.Names.{names_held}
 use Rattle.rules.specs.Nodes.{Means}
 use Rattle.rules.specs.Model.{Stands, Unchanged, Enters}
-use Rattle.rules.specs.Led.{SheetIs, SheetLed, Untouched, Opened, OpeningLed, EnteringIs, EnteringLed}
+use Rattle.rules.proofs.OfStands.{by_parts}
+use Rattle.rules.specs.Led.{SheetStands, SheetIs, SheetLed, Untouched, OpeningIs, OpeningLed, EnteringIs, EnteringLed}
 
-pub blank_is : (s : Sheet) (ns : List Text) → Stands s ns [] → SheetIs ns [] s
+pub blank_is : (s : Sheet) (ns : List Text) → SheetStands s ns [] → SheetIs ns [] s
 blank_is s ns st = ∣ ([], st, tt) ∣₁
 
-pub untouched_led : (s : Sheet) → Stands s [] [] → (h : History) (n : ℕ) → Untouched h n → SheetLed h n s
+pub untouched_led : (s : Sheet) → SheetStands s [] [] → (h : History) (n : ℕ) → Untouched h n → SheetLed h n s
 untouched_led s st h n u =
     subst (λ (ns : List Text). SheetIs ns (rules h n) s) (sym u.0) (subst (λ (ts : List Text). SheetIs [] ts s) (sym u.1) (blank_is s [] st))
 
@@ -39,7 +40,7 @@ itself n new old = ap (λ (b : Bool). cond b new old) (eq-eqb n n refl)
 
 -- ---- opening
 
-pub opening_led : (s s' : Sheet) (t : Text) (r : Result (Unit {0}) NamesFault) → RightOpening t r → Opened s t r s' → (h : History) (n : ℕ) → SheetLed h n s → OpeningLed h n t r s'
+pub opening_led : (s s' : Sheet) (t : Text) (r : Result (Unit {0}) NamesFault) → RightOpening t r → OpeningIs s t r s' → (h : History) (n : ℕ) → SheetLed h n s → OpeningLed h n t r s'
 opening_led s s' t (Ok u) right opens h n led =
     (right, subst (λ (ns : List Text). SheetIs ns (cond (eqb n n) [] (rules h n)) s') (sym (itself n (names_of t) (names h n))) (subst (λ (ts : List Text). SheetIs (names_of t) ts s') (sym (itself n [] (rules h n))) opens))
 opening_led s s' t (Err e) right opens h n led = (right, subst (SheetLed h n) (sym opens) led)
@@ -72,7 +73,7 @@ module _ (Before After : List Text → List Formula → Type 0) (fit : (ns : Lis
 -- a text that is refused
 module _ (s : Sheet) (t : Text) (r : Result ℕ SheetFault) (y : SheetFault) (refused : r ≡ Err y)
     (judging : (gs : List Formula) → Means s.store.nodes s.store.count gs → judged (names_held s.names) (leb 16 s.rules) gs t ≡ Err y) where
-  judged_so : (ns : List Text) (fs : List Formula) → Stands s ns fs → judged ns (leb 16 (length fs)) (listed fs) t ≡ Err y
+  judged_so : (ns : List Text) (fs : List Formula) → SheetStands s ns fs → judged ns (leb 16 (length fs)) (listed fs) t ≡ Err y
   judged_so ns fs st =
       ap (λ (v : List Text). judged v (leb 16 (length fs)) (listed fs) t) (sym st.named) ∙ ap (λ (v : ℕ). judged (names_held s.names) (leb 16 v) (listed fs) t) st.count_is ∙ judging (listed fs) st.means
 
@@ -80,7 +81,7 @@ module _ (s : Sheet) (t : Text) (r : Result ℕ SheetFault) (y : SheetFault) (re
   refused_unchanged = subst (λ (a : Result ℕ SheetFault). Unchanged a s s) (sym refused) refl
 
   pub refused_enters : (ns : List Text) (fs : List Formula) → Stands s ns fs → Enters ns fs t r s
-  refused_enters ns fs st = subst (λ (a : Result ℕ SheetFault). Enters ns fs t a s) (sym refused) (judged_so ns fs st, st)
+  refused_enters ns fs st = subst (λ (a : Result ℕ SheetFault). Enters ns fs t a s) (sym refused) (judged_so ns fs (by_parts s ns fs st), st)
 
   pub refused_answers : (ns ts : List Text) → SheetIs ns ts s → EnteringIs ns ts t r s
   refused_answers ns ts is = subst (λ (a : Result ℕ SheetFault). EnteringIs ns ts t a s) (sym refused) (

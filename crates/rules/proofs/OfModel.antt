@@ -98,7 +98,7 @@ pub asked : (s : Sheet) (rule : ℕ) (ns : List Text) (fs : List Formula) (r : O
     → MatchOption r (ManyKept (take s.store.count s.store.nodes) (get_or s.roots rule 0)) (BreachAt s.store.nodes s.store.count (get_or s.roots rule 0)) → Asked fs rule r
 asked s rule ns fs None h st l t below few c = absurd (few c)
 asked s rule ns fs (Some b) h st l t below few c =
-    let n = st.count_is in
+    let n = st.count in
     let w = st.rooted rule (omega arith) in (
       omega arith,
       ap (λ (v : List Node). formula v b.root) c.nodes_are ∙ ap (formula (take s.store.count s.store.nodes)) c.root_is ∙ stored_formula s.store.nodes s.store.count (listed fs) l t st.means (get_or s.roots rule 0) below ∙ w.1,

@@ -11,11 +11,15 @@ use Rattle.meaning.specs.Histories.{names, rules}
 use Rattle.meaning.specs.Right.{Right}
 pub use Rattle.texts.specs.Entered.{BreachFormulas}
 use Rattle.rules.specs.declared.sheet.Sheet.{Sheet}
-use Rattle.rules.specs.Model.{Stands}
+use Rattle.rules.specs.Stands.{PartsStand}
+
+-- the parts of the sheet stand for the names ns and the breach formulas fs
+abbrev pub SheetStands : Sheet → List Text → List Formula → Type 0
+SheetStands s ns fs = PartsStand s.names s.store.nodes s.store.count s.roots s.rules ns fs
 
 -- the sheet has the names ns and the rules ts: it stands for their breach formulas
 abbrev pub SheetIs : List Text → List Text → Sheet → Type 0
-SheetIs ns ts s = ∥ ((fs : List Formula) × Stands s ns fs × BreachFormulas ns ts fs) ∥₁
+SheetIs ns ts s = ∥ ((fs : List Formula) × SheetStands s ns fs × BreachFormulas ns ts fs) ∥₁
 
 -- the sheet is as the history h says of sheet number n
 abbrev pub SheetLed : History → ℕ → Sheet → Type 0
@@ -28,9 +32,9 @@ Untouched h n = (names h n ≡ []) × (rules h n ≡ [])
 -- ---- opening
 
 -- the sheet after opening s with a text: blank but for the names of the text; a refusal changes nothing
-abbrev pub Opened : Sheet → Text → Result (Unit {0}) NamesFault → Sheet → Type 0
-Opened s t (Ok u) s' = SheetIs (names_of t) [] s'
-Opened s t (Err e) s' = s' ≡ s
+abbrev pub OpeningIs : Sheet → Text → Result (Unit {0}) NamesFault → Sheet → Type 0
+OpeningIs s t (Ok u) s' = SheetIs (names_of t) [] s'
+OpeningIs s t (Err e) s' = s' ≡ s
 
 -- the answer is right after the history h, and the sheet is as the history with this call says
 abbrev pub OpeningLed : History → ℕ → Text → Result (Unit {0}) NamesFault → Sheet → Type 0

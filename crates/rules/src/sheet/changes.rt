@@ -6,8 +6,8 @@ ghost use Rattle.meaning.specs.Calls.{History};
 ghost use Rattle.meaning.specs.Right.{RightOpening};
 ghost use Rattle.texts.specs.Fit.{Fit};
 ghost use Rattle.rules.specs.Names.{names_held};
-ghost use Rattle.rules.specs.Model.{Stands, Unchanged, Enters};
-ghost use Rattle.rules.specs.Led.{SheetIs, SheetLed, Untouched, Opened, OpeningLed, EnteringIs, EnteringLed};
+ghost use Rattle.rules.specs.Model.{Stands, Opened, Unchanged, Enters};
+ghost use Rattle.rules.specs.Led.{SheetIs, SheetLed, Untouched, OpeningIs, OpeningLed, EnteringIs, EnteringLed};
 
 use crate::entering::read_breach;
 use crate::names::Names;
@@ -51,6 +51,7 @@ impl Sheet {
     pub fn open(&mut self, text: &[u8]) -> Result<(), NamesFault>
         ensures answer { RightOpening text.now result }
         ensures opens { Opened self.old text.now result self.new }
+        ensures is { OpeningIs self.old text.now result self.new }
         ensures led { (h : History) (n : ℕ) → SheetLed h n self.old → OpeningLed h n text.now result self.new }
     {
         match read_names(text) {

@@ -5,7 +5,8 @@ use Rattle.meaning.specs.Bytes.{Text}
 use Rattle.texts.specs.Judged.{judged}
 use Rattle.texts.specs.Listed.{listed}
 use Rattle.rules.specs.Stands.{PartsStand}
-use Rattle.rules.specs.Model.{Stands}
+use Rattle.rules.specs.Led.{SheetStands}
+use Rattle.rules.proofs.OfStands.{by_parts, of_parts}
 use Rattle.rules.proofs.OfLed.{accepted_answers, accepted_led, refused_unchanged, refused_enters, refused_answers, refused_led}
 use Rattle.rules.specs.Kept.{FewKept}
 use Rattle.rules.proofs.OfKept.{stored_topological, few_kept_stays}
@@ -49,11 +50,11 @@ returns c =
     let root = c.in_ok-root.root in
     let room : s.rules < length s.roots = omega (arith, s.size) in
     let After : List Text → List Formula → Type 0 = PartsStand s.names nodes count (set s.roots s.rules root) (s.rules + 1) in
-    let enters : (ns : List Text) (fs : List Formula) → Stands s ns fs → (f : Formula) × (judged ns (leb 16 (length fs)) (listed fs) t ≡ Ok f) × (s.rules ≡ length fs) × After ns (fs ++ (f ∷ []))
+    let enters : (ns : List Text) (fs : List Formula) → SheetStands s ns fs → (f : Formula) × (judged ns (leb 16 (length fs)) (listed fs) t ≡ Ok f) × (s.rules ≡ length fs) × After ns (fs ++ (f ∷ []))
     = λ ns fs st. let p = one_more_rule s.names s.store.nodes nodes s.store.count count s.roots s.rules root ns fs t st room c.in_ok-root.ensures.reads in (p.0, p.1, sym st.count_is, p.2) in
     record {
       unchanged = tt;
-      enters = enters;
-      answers = accepted_answers (Stands s) After (λ ns fs st. st.fit) t s.rules enters;
-      led = accepted_led (Stands s) After (λ ns fs st. st.fit) t s.rules enters;
+      enters = λ ns fs st. let e = enters ns fs (by_parts s ns fs st) in (e.0, e.1, e.2, of_parts _ ns _ e.3);
+      answers = accepted_answers (SheetStands s) After (λ ns fs st. st.fit) t s.rules enters;
+      led = accepted_led (SheetStands s) After (λ ns fs st. st.fit) t s.rules enters;
     }

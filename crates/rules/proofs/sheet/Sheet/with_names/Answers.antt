@@ -1,4 +1,5 @@
 use Rattle.std.proofs.Common.{[], refl, arith}
+use Rattle.rules.proofs.OfStands.{of_parts}
 use Rattle.rules.proofs.OfModel.{stands_blank}
 use Rattle.rules.proofs.sheet.Sheet.with_names.Goals as goal
 
@@ -12,4 +13,4 @@ invariant_of-result c = record {
 }
 
 pub returns : goal.returns
-returns c = stands_blank _ _ _ _ _ c.requires c.blank.ensures refl
+returns c = of_parts _ _ _ (stands_blank _ _ _ _ _ c.requires c.blank.ensures refl)
