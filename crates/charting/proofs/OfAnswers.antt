@@ -17,7 +17,7 @@ use Rattle.meaning.specs.declared.refusals.FillingFault.{FillingFault}
 use Rattle.meaning.specs.declared.refusals.FillingFault.TheVariants.{NoRule, LabelsExceed, StandingsExceed}
 use Rattle.meaning.proofs.OfBridges.{label_join, standing_join, standing_turn}
 use Rattle.meaning.proofs.OfWhole.{label_from, whole_charts_are_counted}
-use Rattle.charting.specs.Filled.{Filled, Refused, Filling, Refusing}
+use Rattle.charting.specs.Filled.{FilledOnce, Refused, FillingOnce, Refusing}
 use Rattle.charting.specs.Whole.{held}
 use Rattle.charting.specs.Answers.{FillingsAreRight, RefusalsAreRight}
 use Rattle.charting.proofs.OfWhole.{mask_label, same_labels, same_standings, whole}
@@ -46,12 +46,12 @@ module _ (f : Formula) (ks : List Formula) (keeps : ListsKept f ks) where
     ∣ more_alike Letters (lists.SameStanding ks (Breach f)) (SameStanding f) (standing_room areas) (same_standings f ks keeps) x.more ∣₁,
   )
 
-  module _ (few : length ks ≤ 32) (ls : List ℕ) (a : ℕ) (st : List (List ℕ)) (b : ℕ) (nx : List ℕ) (x : Filled f ks ls a st b nx) where
+  module _ (few : length ks ≤ 32) (ls : List ℕ) (a : ℕ) (st : List (List ℕ)) (b : ℕ) (nx : List ℕ) (x : FilledOnce f ks ls a st b nx) where
     pub counted : Counted f (a, b)
     counted =
         let c = whole_charts_are_counted f ks (held ls a st b nx) (whole f ks keeps few ls a st b nx x) in (
-          subst (Number Letters (SameLabel f)) (length-take-le a ls x.labels_fit) c.0,
-          subst (Number Letters (SameStanding f)) (length-take-le b st x.standings_fit) c.1,
+          subst (Number Letters (SameLabel f)) (length-take-le a ls x.filled.labels_fit) c.0,
+          subst (Number Letters (SameStanding f)) (length-take-le b st x.filled.standings_fit) c.1,
         )
 
     pub filled_right : (areas : Areas) → a ≤ label_room areas → b ≤ standing_room areas → Fills f areas (Ok (a, b))
@@ -62,8 +62,9 @@ module _ (f : Formula) (ks : List Formula) (keeps : ListsKept f ks) where
     )
 
 pub fillings_are_right : FillingsAreRight
-fillings_are_right f areas ls a st b nx x =
-    filled_right f x.ks x.keeps x.few_kept ls a st b nx x.filled areas x.labels_fit x.standings_fit
+fillings_are_right f areas ls a st b nx y =
+    let x = y.filling in
+    filled_right f x.ks x.keeps x.few_kept ls a st b nx (record { filled = x.filled; standings_once = y.standings_once }) areas x.labels_fit x.standings_fit
 
 pub refusals_are_right : RefusalsAreRight
 refusals_are_right f areas e x = refused_right f x.ks x.keeps areas e x.refused

@@ -17,7 +17,7 @@ use Rattle.meaning.specs.Whole.{LabelOf, bit, Held, StandingOf, next, Whole, Hol
 use Rattle.meaning.proofs.OfWhole.{number_from, runs, standing_from, moved, holds_breach, breach_holds}
 use Rattle.pairs.specs.Verdicts.{Reads}
 use Rattle.charting.specs.Sets.{bit_of}
-use Rattle.charting.specs.Filled.{after, walked, breached, Filled}
+use Rattle.charting.specs.Filled.{after, walked, breached, Filled, FilledOnce}
 use Rattle.charting.specs.Whole.{held, reader, FilledChartsAreWhole, WholeChartsRead, FilledChartsRead}
 use Rattle.charting.proofs.LabelEnds.{mask_empty, label_length, mask_same}
 
@@ -61,7 +61,11 @@ module _ (f : Formula) (ks : List Formula) (keeps : ListsKept f ks) where
 
   -- ---- filled areas
 
-  module _ (few : length ks ≤ 32) (ls : List ℕ) (a : ℕ) (st : List (List ℕ)) (b : ℕ) (nx : List ℕ) (x : Filled f ks ls a st b nx) where
+  module _ (few : length ks ≤ 32) (ls : List ℕ) (a : ℕ) (st : List (List ℕ)) (b : ℕ) (nx : List ℕ) (once : FilledOnce f ks ls a st b nx) where
+    -- what the areas hold
+    x : Filled f ks ls a st b nx
+    x = once.filled
+
     -- standing number i is the one after u, by the theory's lists
     abbrev At : List ℕ → ℕ → Type 0
     At u i =
@@ -97,7 +101,7 @@ module _ (f : Formula) (ks : List Formula) (keeps : ListsKept f ks) where
         let q = at_some j h.0 in
         let pu = at_same p.0 u i p.3 g in
         let uq = at_same u q.0 j h q.3 in
-        sym p.2 ∙ x.standings_once p.0 q.0 p.1 q.1 (λ ℓ. (λ s. (uq ℓ).0 ((pu ℓ).0 s), λ s. (pu ℓ).1 ((uq ℓ).1 s))) ∙ q.2
+        sym p.2 ∙ once.standings_once p.0 q.0 p.1 q.1 (λ ℓ. (λ s. (uq ℓ).0 ((pu ℓ).0 s), λ s. (pu ℓ).1 ((uq ℓ).1 s))) ∙ q.2
 
     at_next : (i s : ℕ) (u : List ℕ) → Letter s → At u i → At (u ++ s ∷ []) (after nx i s)
     at_next i s u l h =
@@ -242,4 +246,4 @@ whole_charts_read f ks ls a st b nx w first = reads f ks ls a st b nx w first
 
 pub filled_charts_read : FilledChartsRead
 filled_charts_read f ks keeps few ls a st b nx x =
-    reads f ks ls a st b nx (whole f ks keeps few ls a st b nx x) (x.label_first ∙ mask_empty ks)
+    reads f ks ls a st b nx (whole f ks keeps few ls a st b nx x) (x.filled.label_first ∙ mask_empty ks)

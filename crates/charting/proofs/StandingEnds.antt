@@ -19,7 +19,7 @@ use Rattle.charting.specs.Sets.{bit_of, Packs, upto}
 use Rattle.charting.specs.Walks.{Closed, trace, Reached, Charted, Overfull}
 use Rattle.charting.proofs.SetSteps.{packs_at, packs_words, upto_in, upto_out}
 use Rattle.charting.specs.Labels.{Labelled}
-use Rattle.charting.specs.Filled.{Stands, after, walked, ClosedNext, Filled}
+use Rattle.charting.specs.Filled.{Stands, after, walked, ClosedNext, Filled, FilledOnce}
 use Rattle.charting.proofs.LabelEnds.{Known, word_at, word_is, mask_same}
 
 module _ (f : Formula) (ks : List Formula) (place : ℕ) (root_bit : (w : List ℕ) → on place (mask (label ks w)) ≡ sat f w)
@@ -147,7 +147,7 @@ module _ (f : Formula) (ks : List Formula) (place : ℕ) (root_bit : (w : List �
         let e : k / 256 * 256 + k % 256 ≡ k = omega arith in
         subst (λ (z : ℕ). get_or nx z 0 < b) e ((ch.rows.at (k / 256) (omega arith)).below (k % 256) (omega arith))
 
-    pub filled : b * 256 ≤ length nx → Filled f ks ls a st b nx
+    filled : b * 256 ≤ length nx → Filled f ks ls a st b nx
     filled room = record {
       labels_fit = lab.fits;
       standings_fit = ch.fits;
@@ -161,13 +161,15 @@ module _ (f : Formula) (ks : List Formula) (place : ℕ) (root_bit : (w : List �
       standing_count = standing_classes;
       standings_are = λ q h. let t = ch.walks.at q h in (t.0, t.1, one_number t.0 t.1 q h t.2);
       standings_apart = ch.apart;
-      standings_once = one_standing;
       within = λ u l. (walk_is u l).0;
       stands = λ u l. reached_stands u _ l (walk_is u l).1;
       breach = λ u l.
           let e : bit_of (get_or st (walked nx u) []) 0 ≡ sat f u = reached_says u _ l (walk_is u l).1 0 lab.some [] lab.empty ∙ ap (sat f) (append-nil u) in
           (λ h. (breach_is_sat f u).1 (sym e ∙ h), λ h. e ∙ (breach_is_sat f u).0 h);
     }
+
+    pub filled_once : b * 256 ≤ length nx → FilledOnce f ks ls a st b nx
+    filled_once room = record { filled = filled room; standings_once = one_standing }
 
   -- ---- too many standings
 
@@ -226,7 +228,6 @@ module _ (f : Formula) (ks : List Formula) (ls ls' : List ℕ) (a : ℕ) (st st'
       differ = λ i j d less h e. x.standings_apart.differ i j d less h
           (subst (λ (r : List ℕ). SameWords r (get_or st j d)) (sf i d (omega arith)) (subst (λ (r : List ℕ). SameWords (get_or st' i d) r) (sf j d h) e));
     };
-    standings_once = x.standings_once;
     within = x.within;
     stands = λ u l. subst (λ (r : List ℕ). Stands f ks ls' a u r) (sym (sf (walked nx u) [] (x.within u l))) (stands_front u _ (x.stands u l));
     breach = λ u l. subst (λ (r : List ℕ). (bit_of r 0 ≡ true) ↔ Breach f u) (sym (sf (walked nx u) [] (x.within u l))) (x.breach u l);

@@ -4,11 +4,11 @@ use Rattle.logic.specs.Formula.{Formula}
 use Rattle.meaning.specs.Charts.{Areas}
 use Rattle.meaning.specs.Right.{Fills}
 use Rattle.meaning.specs.declared.refusals.FillingFault.{FillingFault}
-use Rattle.charting.specs.Filled.{Filling, Refusing}
+use Rattle.charting.specs.Filled.{FillingOnce, Refusing}
 
 abbrev pub FillingsAreRight : Type 0
 FillingsAreRight =
-    (f : Formula) (areas : Areas) (ls : List ℕ) (a : ℕ) (st : List (List ℕ)) (b : ℕ) (nx : List ℕ) → Filling f areas ls a st b nx → Fills f areas (Ok (a, b))
+    (f : Formula) (areas : Areas) (ls : List ℕ) (a : ℕ) (st : List (List ℕ)) (b : ℕ) (nx : List ℕ) → FillingOnce f areas ls a st b nx → Fills f areas (Ok (a, b))
 
 abbrev pub RefusalsAreRight : Type 0
 RefusalsAreRight = (f : Formula) (areas : Areas) (e : FillingFault) → Refusing f areas e → Fills f areas (Err e)

@@ -49,12 +49,16 @@ pub record Filled (f : Formula) (ks : List Formula) (ls : List ℕ) (a : ℕ) (s
   pub standing_count : Classes Letters (SameStanding ks (Breach f)) b
   pub standings_are : (q : ℕ) → q < b → (u : List ℕ) × Letters u × (walked nx u ≡ q)
   pub standings_apart : Apart SameWords st b
-  pub standings_once : (u v : List ℕ) → Letters u → Letters v → SameStanding ks (Breach f) u v → walked nx u ≡ walked nx v
   pub closed : ClosedNext nx b
   -- following the next numbers from 0 along a word leads to the standing after it, and bit 0 there says whether it is a breach
   pub within : (u : List ℕ) → Letters u → walked nx u < b
   pub stands : (u : List ℕ) → Letters u → Stands f ks ls a u (slice_index_or st (walked nx u) [])
   pub breach : (u : List ℕ) → Letters u → (bit_of (slice_index_or st (walked nx u) []) 0 ≡ true) ↔ Breach f u
+
+-- ... and words with one standing lead to one number
+pub record FilledOnce (f : Formula) (ks : List Formula) (ls : List ℕ) (a : ℕ) (st : List (List ℕ)) (b : ℕ) (nx : List ℕ) : Type 0 where
+  pub filled : Filled f ks ls a st b nx
+  pub standings_once : (u v : List ℕ) → Letters u → Letters v → SameStanding ks (Breach f) u v → walked nx u ≡ walked nx v
 
 -- the labels fit their places, and there are more standings than places
 pub record MoreStandings (f : Formula) (ks : List Formula) (label_places places : ℕ) : Type 0 where
@@ -81,6 +85,11 @@ pub record Filling (f : Formula) (areas : Areas) (ls : List ℕ) (a : ℕ) (st :
   pub labels_fit : a ≤ label_room areas
   pub standings_fit : b ≤ standing_room areas
   pub filled : Filled f ks ls a st b nx
+
+-- ... where words with one standing lead to one number
+pub record FillingOnce (f : Formula) (areas : Areas) (ls : List ℕ) (a : ℕ) (st : List (List ℕ)) (b : ℕ) (nx : List ℕ) : Type 0 where
+  pub filling : Filling f areas ls a st b nx
+  pub standings_once : (u v : List ℕ) → Letters u → Letters v → SameStanding filling.ks (Breach f) u v → walked nx u ≡ walked nx v
 
 -- a refused filling of f in areas
 pub record Refusing (f : Formula) (areas : Areas) (e : FillingFault) : Type 0 where

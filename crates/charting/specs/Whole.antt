@@ -5,7 +5,7 @@ use Rattle.logic.specs.Labels.{ListsKept}
 use Rattle.meaning.specs.Whole.{Held, Whole}
 use Rattle.pairs.specs.Readers.{Reader}
 use Rattle.pairs.specs.Verdicts.{Reads}
-use Rattle.charting.specs.Filled.{after, breached, Filled}
+use Rattle.charting.specs.Filled.{after, breached, FilledOnce}
 
 -- what the areas hold up to the counts; the first standing is number 0
 abbrev pub held : List ℕ → ℕ → List (List ℕ) → ℕ → List ℕ → Held
@@ -18,7 +18,7 @@ reader st nx = record { next = λ q s. after nx q s; says = λ q. breached st q 
 abbrev pub FilledChartsAreWhole : Type 0
 FilledChartsAreWhole =
     (f : Formula) (ks : List Formula) → ListsKept f ks → length ks ≤ 32
-    → (ls : List ℕ) (a : ℕ) (st : List (List ℕ)) (b : ℕ) (nx : List ℕ) → Filled f ks ls a st b nx → Whole f ks (held ls a st b nx)
+    → (ls : List ℕ) (a : ℕ) (st : List (List ℕ)) (b : ℕ) (nx : List ℕ) → FilledOnce f ks ls a st b nx → Whole f ks (held ls a st b nx)
 
 -- a whole chart with the empty label first
 abbrev pub WholeChartsRead : Type 0
@@ -29,4 +29,4 @@ WholeChartsRead =
 abbrev pub FilledChartsRead : Type 0
 FilledChartsRead =
     (f : Formula) (ks : List Formula) → ListsKept f ks → length ks ≤ 32
-    → (ls : List ℕ) (a : ℕ) (st : List (List ℕ)) (b : ℕ) (nx : List ℕ) → Filled f ks ls a st b nx → Reads f (reader st nx)
+    → (ls : List ℕ) (a : ℕ) (st : List (List ℕ)) (b : ℕ) (nx : List ℕ) → FilledOnce f ks ls a st b nx → Reads f (reader st nx)

@@ -17,12 +17,13 @@ use Rattle.meaning.proofs.OfHistories.{at_same}
 use Rattle.rules.specs.declared.sheet.Sheet.{Sheet}
 use Rattle.rules.specs.Model.{Stands}
 use Rattle.rules.specs.Led.{BreachFormulas, SheetLed}
-use Rattle.charting.specs.Filled.{Filling, Refusing}
+use Rattle.rules.proofs.OfStands.{of_parts}
+use Rattle.charting.specs.Filled.{FillingOnce, Refusing}
 use Rattle.charting.proofs.OfWhole.{whole}
 use Rattle.charting.proofs.OfAnswers.{fillings_are_right, refusals_are_right}
 use Rattle.charts.specs.declared.chart.Chart.{Chart}
 use Rattle.charts.specs.declared.state.State.TheVariants.{Blank, Ready}
-use Rattle.charts.specs.Fills.{areas, ReadyWith, Emptied, Left, Fills}
+use Rattle.charts.specs.Fills.{areas, ReadyWith, Emptied, Left, Fills, FillsOnce}
 use Rattle.charts.specs.Led.{held_of, mode_of, ChartLed, Answered}
 
 -- ---- the text of a rule
@@ -64,7 +65,7 @@ module _ (h : History) (c s rule : ℕ) (sheet : Sheet) (d e : Chart) (is : Shee
   ruled_by : (r : Result (ℕ × ℕ) FillingFault) (Q : Formula → Type 0)
       → ((ns : List Text) (fs : List Formula) → Stands sheet ns fs → (rule < length fs) × Q (get_or fs rule tru)) → SomeRule (names h s) (slice_get (rules h s) rule) Q
   ruled_by r Q fills = ∥∥₁_map is (λ y.
-      let p = fills (names h s) y.0 y.1 in
+      let p = fills (names h s) y.0 (of_parts sheet (names h s) y.0 y.1) in
       let t = rule_text (names h s) (rules h s) y.0 rule y.2 p.0 in
       (t.0, get_or y.0 rule tru, t.1, t.2, p.1))
 
@@ -83,11 +84,11 @@ module _ (h : History) (c s rule : ℕ) (sheet : Sheet) (d e : Chart) (is : Shee
       subst (λ z. ChartIs z (at c c None (watch h c)) (held_of e) m) (sym (at_same c o (filled_rule h c)))
       (subst (λ z. ChartIs o z (held_of e) m) (sym (at_same c None (watch h c))) x)
 
-  pub fill_answered : (r : Result (ℕ × ℕ) FillingFault) → Left r d e → ((ns : List Text) (fs : List Formula) → Stands sheet ns fs → Fills fs rule r d e)
+  pub fill_answered : (r : Result (ℕ × ℕ) FillingFault) → Left r d e → ((ns : List Text) (fs : List Formula) → Stands sheet ns fs → FillsOnce fs rule r d e)
       → ChartLed h c d → Answered h c (filling c s rule (areas d)) r e
   fill_answered (Err NoRule) l fills led = (
     no_right (names h s) (slice_get (rules h s) rule) (areas d)
-        (∥∥₁_map is (λ y. no_text (names h s) (rules h s) y.0 rule y.2 (fills (names h s) y.0 y.1))),
+        (∥∥₁_map is (λ y. no_text (names h s) (rules h s) y.0 rule y.2 (fills (names h s) y.0 (of_parts sheet (names h s) y.0 y.1)))),
     subst (ChartLed h c) (sym l) led,
   )
   fill_answered (Err LabelsExceed) l fills led = (refused LabelsExceed fills, moved None (mode_of e.state) (emptied LabelsExceed l))
@@ -102,8 +103,9 @@ module _ (h : History) (c s rule : ℕ) (sheet : Sheet) (d e : Chart) (is : Shee
         (some_whole (names h s) (slice_get (rules h s) rule) (held_of e)
         (ruled_by (Ok p) (λ f. (ks : List Formula) × Whole f ks (held_of e)) (λ ns fs st.
         let q = fills ns fs st in
-        let w = whole (get_or fs rule tru) q.1.ks q.1.keeps q.1.few_kept e.labels.now p.0 e.standings.now p.1 e.next.now q.1.filled in
-        (q.0, (q.1.ks, rw (l.0, l.1) w)))))),
+        let x = q.1.filling in
+        let w = whole (get_or fs rule tru) x.ks x.keeps x.few_kept e.labels.now p.0 e.standings.now p.1 e.next.now (record { filled = x.filled; standings_once = q.1.standings_once }) in
+        (q.0, (x.ks, rw (l.0, l.1) w)))))),
   )
 
 -- ---- from the filling of a breach formula
@@ -112,7 +114,7 @@ module _ (f : Formula) (d e : Chart) where
   -- what the filling of f leaves
   abbrev pub FilledWith : Result (ℕ × ℕ) FillingFault → Type 0
   FilledWith r =
-      MatchResult r (λ p. Filling f (areas d) e.labels.now p.0 e.standings.now p.1 e.next.now) (λ x. Refusing f (areas d) x)
+      MatchResult r (λ p. FillingOnce f (areas d) e.labels.now p.0 e.standings.now p.1 e.next.now) (λ x. Refusing f (areas d) x)
 
   pub left_of : (r : Result (ℕ × ℕ) FillingFault) → MatchResult r (λ p. ReadyWith p e) (λ x. Emptied e) → FilledWith r → Left r d e
   left_of (Ok p) l x = l
@@ -120,8 +122,15 @@ module _ (f : Formula) (d e : Chart) where
   left_of (Err LabelsExceed) l x = l
   left_of (Err StandingsExceed) l x = l
 
-  pub fills_of : (fs : List Formula) (rule : ℕ) → rule < length fs → f ≡ get_or fs rule tru → (r : Result (ℕ × ℕ) FillingFault) → FilledWith r → Fills fs rule r d e
-  fills_of fs rule l is (Ok p) x = (l, subst (λ g. Filling g (areas d) e.labels.now p.0 e.standings.now p.1 e.next.now) is x)
+  pub fills_of : (fs : List Formula) (rule : ℕ) → rule < length fs → f ≡ get_or fs rule tru → (r : Result (ℕ × ℕ) FillingFault) → FilledWith r → FillsOnce fs rule r d e
+  fills_of fs rule l is (Ok p) x = (l, subst (λ g. FillingOnce g (areas d) e.labels.now p.0 e.standings.now p.1 e.next.now) is x)
   fills_of fs rule l is (Err NoRule) x = absurd x.refused
   fills_of fs rule l is (Err LabelsExceed) x = (l, subst (λ g. Refusing g (areas d) LabelsExceed) is x)
   fills_of fs rule l is (Err StandingsExceed) x = (l, subst (λ g. Refusing g (areas d) StandingsExceed) is x)
+
+-- what is answered and held, without that
+pub plainly : (fs : List Formula) (rule : ℕ) (r : Result (ℕ × ℕ) FillingFault) (d e : Chart) → FillsOnce fs rule r d e → Fills fs rule r d e
+plainly fs rule (Ok p) d e x = (x.0, x.1.filling)
+plainly fs rule (Err NoRule) d e x = x
+plainly fs rule (Err LabelsExceed) d e x = x
+plainly fs rule (Err StandingsExceed) d e x = x

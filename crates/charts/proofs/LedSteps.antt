@@ -43,7 +43,7 @@ empty_first ls a st b nx s h n = ∥∥₁_elim h (ℕ_set _ _) (λ x. go x)
   where
     go : ((s ≡ Blank) × (a ≡ 0) × (b ≡ 0)) ⊎ ((f : Formula) × WholeFor f ls a st b nx s) → get_or ls 0 0 ≡ 0
     go (inl e) = absurd (n e.0)
-    go (inr w) = w.1.filled.label_first ∙ mask_empty w.1.ks
+    go (inr w) = w.1.filled.filled.label_first ∙ mask_empty w.1.ks
 
 -- ---- beginning
 

@@ -5,7 +5,7 @@ use mathlib.Core.List.{foldl-append}
 use Rattle.logic.specs.Formula.{Formula, Letters}
 use Rattle.logic.proofs.Tables.{letters_append}
 use Rattle.meaning.specs.Charts.{Areas}
-use Rattle.charting.specs.Filled.{after, walked, breached, Filling}
+use Rattle.charting.specs.Filled.{after, walked, breached, FillingOnce}
 use Rattle.charts.specs.declared.state.State.{State}
 use Rattle.charts.specs.declared.state.State.TheVariants.{Blank, Ready, Watching, Broken}
 use Rattle.charts.specs.Watch.{least, most}
@@ -25,9 +25,10 @@ module _ (ls : List ℕ) (a : ℕ) (st : List (List ℕ)) (b : ℕ) (nx : List �
   pub blank_sound : a ≡ 0 → b ≡ 0 → BlankOrWhole ls a st b nx Blank
   blank_sound p q = ∣ inl (refl, p, q) ∣₁
 
-  pub filled_sound : (f : Formula) (areas : Areas) → Filling f areas ls a st b nx → BlankOrWhole ls a st b nx Ready
-  filled_sound f areas x =
-      ∣ inr (f, record { ks = x.ks; keeps = x.keeps; few_kept = x.few_kept; filled = x.filled; watch = tt }) ∣₁
+  pub filled_sound : (f : Formula) (areas : Areas) → FillingOnce f areas ls a st b nx → BlankOrWhole ls a st b nx Ready
+  filled_sound f areas y =
+      let x = y.filling in
+      ∣ inr (f, record { ks = x.ks; keeps = x.keeps; few_kept = x.few_kept; filled = record { filled = x.filled; standings_once = y.standings_once }; watch = tt }) ∣₁
 
   -- a chart that has a standing is whole for some formula
   pub whole_some : (s : State) → 0 < b → BlankOrWhole ls a st b nx s → ∥ ((f : Formula) × WholeFor f ls a st b nx s) ∥₁
@@ -54,7 +55,7 @@ module _ (ls : List ℕ) (a : ℕ) (st : List (List ℕ)) (b : ℕ) (nx : List �
     pub broken_sound : breached st (after nx q s) ≡ true → BlankOrWhole ls a st b nx Broken
     broken_sound e = ∥∥₁_map (whole_some (Watching q) (omega arith) h) (λ x.
         let n = one_more x in
-        let says = x.1.filled.breach (x.1.watch.0 ++ s ∷ []) n.0 in
+        let says = x.1.filled.filled.breach (x.1.watch.0 ++ s ∷ []) n.0 in
         inr (
           x.0,
           record {
@@ -69,7 +70,7 @@ module _ (ls : List ℕ) (a : ℕ) (st : List (List ℕ)) (b : ℕ) (nx : List �
     pub going_sound : breached st (after nx q s) ≡ false → BlankOrWhole ls a st b nx (Watching (after nx q s))
     going_sound e = ∥∥₁_map (whole_some (Watching q) (omega arith) h) (λ x.
         let n = one_more x in
-        let says = x.1.filled.breach (x.1.watch.0 ++ s ∷ []) n.0 in
+        let says = x.1.filled.filled.breach (x.1.watch.0 ++ s ∷ []) n.0 in
         inr (
           x.0,
           record {

@@ -6,7 +6,7 @@ use Rattle.meaning.specs.declared.refusals.FillingFault.{FillingFault}
 use Rattle.meaning.specs.declared.refusals.FillingFault.TheVariants.{NoRule, LabelsExceed, StandingsExceed}
 use Rattle.charts.specs.declared.chart.Chart.{Chart}
 use Rattle.charts.specs.declared.state.State.TheVariants.{Blank, Ready}
-use Rattle.charting.specs.Filled.{Filling, Refusing, areas_of}
+use Rattle.charting.specs.Filled.{Filling, FillingOnce, Refusing, areas_of}
 
 -- the lengths of a chart's areas
 abbrev pub areas : Chart → Areas
@@ -32,3 +32,10 @@ Fills fs rule (Ok p) c d = (rule < length fs) × Filling (slice_index_or fs rule
 Fills fs rule (Err NoRule) c d = length fs ≤ rule
 Fills fs rule (Err LabelsExceed) c d = (rule < length fs) × Refusing (slice_index_or fs rule tru) (areas c) LabelsExceed
 Fills fs rule (Err StandingsExceed) c d = (rule < length fs) × Refusing (slice_index_or fs rule tru) (areas c) StandingsExceed
+
+-- ... where words with one standing lead to one number
+abbrev pub FillsOnce : List Formula → ℕ → Result (ℕ × ℕ) FillingFault → Chart → Chart → Type 0
+FillsOnce fs rule (Ok p) c d = (rule < length fs) × FillingOnce (slice_index_or fs rule tru) (areas c) d.labels.now p.0 d.standings.now p.1 d.next.now
+FillsOnce fs rule (Err NoRule) c d = length fs ≤ rule
+FillsOnce fs rule (Err LabelsExceed) c d = (rule < length fs) × Refusing (slice_index_or fs rule tru) (areas c) LabelsExceed
+FillsOnce fs rule (Err StandingsExceed) c d = (rule < length fs) × Refusing (slice_index_or fs rule tru) (areas c) StandingsExceed

@@ -3,7 +3,7 @@ use Rattle.std.specs.Prelude.{◌≡◌, ℕ, ◌≤◌, ◌⊎◌, List, length
 use Rattle.logic.specs.Formula.{Formula, Letters}
 use Rattle.logic.specs.Witness.{Breach}
 use Rattle.logic.specs.Labels.{ListsKept}
-use Rattle.charting.specs.Filled.{walked, Filled}
+use Rattle.charting.specs.Filled.{walked, FilledOnce}
 use Rattle.charts.specs.declared.state.State.{State}
 use Rattle.charts.specs.declared.state.State.TheVariants.{Blank, Ready, Watching, Broken}
 
@@ -19,7 +19,7 @@ pub record WholeFor (f : Formula) (ls : List ℕ) (a : ℕ) (st : List (List ℕ
   pub ks : List Formula
   pub keeps : ListsKept f ks
   pub few_kept : length ks ≤ 32
-  pub filled : Filled f ks ls a st b nx
+  pub filled : FilledOnce f ks ls a st b nx
   pub watch : WatchKept f nx s
 
 -- a chart is blank and claims nothing, or it is whole for some formula

@@ -2,7 +2,7 @@
 ghost use Rattle.std.specs.Prelude.{◌*◌, ◌≤◌, length, MatchResult};
 ghost use Rattle.rules.specs.Kept.{formula_of};
 ghost use Rattle.charting.specs.Breaches.{kept_of};
-ghost use Rattle.charting.specs.Filled.{Filled, Refused, Filling, Refusing, areas_of};
+ghost use Rattle.charting.specs.Filled.{FilledOnce, Refused, FillingOnce, Refusing, areas_of};
 
 use crate::labels::all_labels;
 use crate::standings::{all_standings, first_standing};
@@ -21,7 +21,7 @@ fn fill_places(
     requires table { length labels.old * 256 ≤ length table.old }
     requires standings { length standings.old ≤ 512 }
     requires next { length standings.old * 256 ≤ length next.old }
-    ensures { MatchResult result (λ p. Filled (formula_of formula.now) (kept_of formula.now) labels.new p.0 standings.new p.1 next.new) (λ e. Refused (formula_of formula.now) (kept_of formula.now) (length labels.old) (length standings.old) e) }
+    ensures { MatchResult result (λ p. FilledOnce (formula_of formula.now) (kept_of formula.now) labels.new p.0 standings.new p.1 next.new) (λ e. Refused (formula_of formula.now) (kept_of formula.now) (length labels.old) (length standings.old) e) }
 {
     let place = formula.root_place();
     let Some(a) = all_labels(labels, table, formula) else {
@@ -41,7 +41,7 @@ pub(crate) fn fill_areas(
     standings: &mut [[u64; 8]],
     next: &mut [u16],
 ) -> Result<(usize, usize), FillingFault>
-    ensures { MatchResult result (λ p. Filling (formula_of formula.now) (areas_of labels.old standings.old next.old) labels.new p.0 standings.new p.1 next.new) (λ e. Refusing (formula_of formula.now) (areas_of labels.old standings.old next.old) e) }
+    ensures { MatchResult result (λ p. FillingOnce (formula_of formula.now) (areas_of labels.old standings.old next.old) labels.new p.0 standings.new p.1 next.new) (λ e. Refusing (formula_of formula.now) (areas_of labels.old standings.old next.old) e) }
 {
     let mut table = [0u16; 131072];
     let label_places = labels.len().min(512);

@@ -1,6 +1,6 @@
 -- `nth` of the lists that machines are made of.
 use Rattle.std.proofs.Common.{◌≡◌, ℕ, zero, suc, ◌+◌, ◌*◌, List, [], ◌∷◌, map, Some, Option, refl, arith}
-use Rattle.std.specs.List.{AllByRecursion as All, slice_get}
+use Rattle.std.specs.List.{AllByRecursion, slice_get}
 use Rattle.std.specs.Option.{option_map}
 use Rattle.meaning.specs.Kinds.{doubled}
 
@@ -29,7 +29,7 @@ nth_doubled_high n (t ∷ ts) (suc q) (suc (suc k)) e = nth_doubled_high n ts q 
 some_same : {X : Type 0} (x y : X) → ◌≡◌ {A = Option X} (Some x) (Some y) → x ≡ y
 some_same x y e = cc
 
-pub nth_all : (P : ℕ → Type 0) (xs : List ℕ) (k x : ℕ) → All P xs → slice_get xs k ≡ Some x → P x
+pub nth_all : (P : ℕ → Type 0) (xs : List ℕ) (k x : ℕ) → AllByRecursion P xs → slice_get xs k ≡ Some x → P x
 nth_all P [] k x h e = absurd (let z : ◌≡◌ {A = ℕ} 0 1 = cc in omega arith)
 nth_all P (y ∷ ys) zero x h e = rw (← some_same y x e) h.0
 nth_all P (y ∷ ys) (suc k) x h e = nth_all P ys k x h.1 e

@@ -2,7 +2,7 @@
 use Rattle.std.specs.Prelude.{◌≡◌, ℕ, zero, suc, ◌<◌, ◌≤◌, List, [], ◌∷◌, map, length, take, slice_index_or}
 use Rattle.std.proofs.Common.{arith, length-take}
 use Rattle.std.proofs.lemmas.List.{length-map}
-use Rattle.std.specs.List.{AllByRecursion as All}
+use Rattle.std.specs.List.{AllByRecursion}
 use Rattle.meaning.specs.Machines.{Lawful}
 use Rattle.meaning.specs.Kinds.{State as StateLine, Step as StepLine, table_meaning}
 use Rattle.meaning.proofs.OfLaws.{table_lawful}
@@ -10,7 +10,7 @@ use Rattle.machines.specs.declared.table.Table.{Table}
 use Rattle.machines.specs.Rows.{blank_state, blank_step, state_line, step_line}
 use Rattle.machines.specs.Held.{held_lines}
 
-all_front : {X Y : Type 0} (P : Y → Type 0) (f : X → Y) (d : X) (xs : List X) (n : ℕ) → n ≤ length xs → ((i : ℕ) → i < n → P (f (slice_index_or xs i d))) → All P (map f (take n xs))
+all_front : {X Y : Type 0} (P : Y → Type 0) (f : X → Y) (d : X) (xs : List X) (n : ℕ) → n ≤ length xs → ((i : ℕ) → i < n → P (f (slice_index_or xs i d))) → AllByRecursion P (map f (take n xs))
 all_front P f d xs zero l h = tt
 all_front P f d [] (suc n) l h = tt
 all_front P f d (x ∷ xs) (suc n) l h = (h 0 (omega arith), all_front P f d xs n (omega arith) (λ i j. h (suc i) (omega arith)))

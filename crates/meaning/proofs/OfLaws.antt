@@ -5,7 +5,7 @@ use lib.Pow.{pow-lt}
 use lib.ListN.{length-map}
 use Rattle.std.proofs.lemmas.Bool.{and_parts, ltb-true, ltb-false, leb-true}
 use Rattle.std.proofs.ByRecursion.{All-weaker}
-use Rattle.std.specs.List.{AllByRecursion as All}
+use Rattle.std.specs.List.{AllByRecursion}
 use Rattle.meaning.specs.declared.refusals.LineFault.{LineFault}
 use Rattle.meaning.specs.declared.refusals.LineFault.TheVariants.{Table}
 use Rattle.meaning.specs.declared.refusals.TableFault.TheVariants.{NoRoom}
@@ -25,7 +25,7 @@ by_test P false f g = g refl
 
 -- ---- the round
 
-one_below : (n x : ℕ) (b : Bool) → (b ≡ true → x < n) → All (λ s. s < n) (cond b (x ∷ []) [])
+one_below : (n x : ℕ) (b : Bool) → (b ≡ true → x < n) → AllByRecursion (λ s. s < n) (cond b (x ∷ []) [])
 one_below n x true h = (h refl, tt)
 one_below n x false h = tt
 
@@ -58,11 +58,11 @@ pub length_doubled : (n : ℕ) (ts : List ℕ) → length (doubled n ts) ≡ 2 *
 length_doubled n [] = refl
 length_doubled n (t ∷ ts) = let h = length_doubled n ts in omega arith
 
-doubled_below : (n : ℕ) (ts : List ℕ) → All (λ t. t < n) ts → All (λ t. t < 2 * n) (doubled n ts)
+doubled_below : (n : ℕ) (ts : List ℕ) → AllByRecursion (λ t. t < n) ts → AllByRecursion (λ t. t < 2 * n) (doubled n ts)
 doubled_below n [] h = tt
 doubled_below n (t ∷ ts) h = (omega (arith, h.0), (omega (arith, h.0), doubled_below n ts h.1))
 
-raised_below : (n : ℕ) (ts : List ℕ) → All (λ t. t < n) ts → All (λ t. t < 2 * n) (map (λ t. n + t) ts)
+raised_below : (n : ℕ) (ts : List ℕ) → AllByRecursion (λ t. t < n) ts → AllByRecursion (λ t. t < 2 * n) (map (λ t. n + t) ts)
 raised_below n [] h = tt
 raised_below n (t ∷ ts) h = (omega (arith, h.0), raised_below n ts h.1)
 
@@ -83,7 +83,7 @@ stuck_fitting_lawful : (m : Meaning) (g : ℕ) → Lawful m → m.width ≤ 5242
 stuck_fitting_lawful m g l small low = record {
   starts_below = All-weaker (λ s. s < m.count) (λ s. s < 2 * m.count) (λ s h. omega arith) m.starts l.starts_below;
   starts_once = l.starts_once;
-  steps_below = λ s h. by_test (λ b. All (λ t. t < 2 * m.count) (cond b (doubled m.count (m.steps s)) (map (λ t. m.count + t) (m.steps (s - m.count)))))
+  steps_below = λ s h. by_test (λ b. AllByRecursion (λ t. t < 2 * m.count) (cond b (doubled m.count (m.steps s)) (map (λ t. m.count + t) (m.steps (s - m.count)))))
       (ltb s m.count)
       (λ e. doubled_below m.count (m.steps s) (l.steps_below s (ltb-true s m.count e)))
       (λ e. raised_below m.count (m.steps (s - m.count)) (l.steps_below (s - m.count) (omega (arith, ltb-false s m.count e))));
@@ -109,15 +109,15 @@ stuck_layers_are_lawful m g l = by_test (λ b. Lawful (cond b (stuck_fitting m g
 
 -- ---- the table
 
-starts_within : (k : ℕ) (ss : List State) → All (λ s. (k ≤ s) × (s < k + length ss)) (starts_from k ss)
+starts_within : (k : ℕ) (ss : List State) → AllByRecursion (λ s. (k ≤ s) × (s < k + length ss)) (starts_from k ss)
 starts_within k [] = tt
 starts_within k (s ∷ ss) = go s.start (All-weaker (λ i. (k + 1 ≤ i) × (i < k + 1 + length ss)) (λ i. (k ≤ i) × (i < k + length (s ∷ ss))) (λ i h. (omega (arith, h.0), omega (arith, h.1))) (starts_from (k + 1) ss) (starts_within (k + 1) ss))
   where
-    go : (b : Bool) → All (λ i. (k ≤ i) × (i < k + length (s ∷ ss))) (starts_from (k + 1) ss) → All (λ i. (k ≤ i) × (i < k + length (s ∷ ss))) (cond b (k ∷ starts_from (k + 1) ss) (starts_from (k + 1) ss))
+    go : (b : Bool) → AllByRecursion (λ i. (k ≤ i) × (i < k + length (s ∷ ss))) (starts_from (k + 1) ss) → AllByRecursion (λ i. (k ≤ i) × (i < k + length (s ∷ ss))) (cond b (k ∷ starts_from (k + 1) ss) (starts_from (k + 1) ss))
     go true h = ((omega arith, omega arith), h)
     go false h = h
 
-above_not_among : (k : ℕ) (xs : List ℕ) → All (λ i. k + 1 ≤ i) xs → Among k xs → ⊥
+above_not_among : (k : ℕ) (xs : List ℕ) → AllByRecursion (λ i. k + 1 ≤ i) xs → Among k xs → ⊥
 above_not_among k [] h m = m
 above_not_among k (x ∷ xs) h m = ⊎_elim (λ (e : k ≡ x). omega (arith, h.0)) (λ (m' : Among k xs). above_not_among k xs h.1 m') m
 
@@ -129,11 +129,11 @@ starts_rise k (s ∷ ss) = go s.start (starts_rise (k + 1) ss)
     go true h = (above_not_among k (starts_from (k + 1) ss) (All-weaker (λ i. (k + 1 ≤ i) × (i < k + 1 + length ss)) (λ i. k + 1 ≤ i) (λ i p. p.0) (starts_from (k + 1) ss) (starts_within (k + 1) ss)), h)
     go false h = h
 
-from_below : (n s : ℕ) (es : List Step) → All (λ (e : Step). e.to < n) es → All (λ t. t < n) (steps_from es s)
+from_below : (n s : ℕ) (es : List Step) → AllByRecursion (λ (e : Step). e.to < n) es → AllByRecursion (λ t. t < n) (steps_from es s)
 from_below n s [] h = tt
 from_below n s (e ∷ es) h = kept (eqb e.from s) (from_below n s es h.1)
   where
-    kept : (b : Bool) → All (λ t. t < n) (steps_from es s) → All (λ t. t < n) (map (λ (e : Step). e.to) (cond b (e ∷ filter (λ (e : Step). eqb e.from s) es) (filter (λ (e : Step). eqb e.from s) es)))
+    kept : (b : Bool) → AllByRecursion (λ t. t < n) (steps_from es s) → AllByRecursion (λ t. t < n) (map (λ (e : Step). e.to) (cond b (e ∷ filter (λ (e : Step). eqb e.from s) es) (filter (λ (e : Step). eqb e.from s) es)))
     kept true r = (h.0, r)
     kept false r = r
 
@@ -147,11 +147,11 @@ from_few s (e ∷ es) = kept (eqb e.from s) (from_few s es)
 
 -- what good lines keep
 pub record Sound (states : List State) (steps : List Step) : Type 0 where
-  pub bytes : All (λ (s : State). s.letter ≤ 255) states
-  pub ends : All (λ (e : Step). e.to < length states) steps
+  pub bytes : AllByRecursion (λ (s : State). s.letter ≤ 255) states
+  pub ends : AllByRecursion (λ (e : Step). e.to < length states) steps
   pub few : length steps ≤ 16384
 
-state_letter : (ss : List State) (i : ℕ) (d : State) → All (λ (s : State). s.letter ≤ 255) ss → i < length ss → (get_or ss i d).letter < 256
+state_letter : (ss : List State) (i : ℕ) (d : State) → AllByRecursion (λ (s : State). s.letter ≤ 255) ss → i < length ss → (get_or ss i d).letter < 256
 state_letter [] i d h l = absurd (omega arith)
 state_letter (s ∷ ss) zero d h l = omega (arith, h.0)
 state_letter (s ∷ ss) (suc i) d h l = state_letter ss i d h.1 (omega arith)
@@ -166,7 +166,7 @@ table_lawful t h = record {
   width_small = omega arith;
 }
 
-all_end : {X : Type 0} (P : X → Type 0) (xs : List X) (x : X) → All P xs → P x → All P (xs ++ (x ∷ []))
+all_end : {X : Type 0} (P : X → Type 0) (xs : List X) (x : X) → AllByRecursion P xs → P x → AllByRecursion P (xs ++ (x ∷ []))
 all_end P [] x h p = (p, tt)
 all_end P (y ∷ ys) x h p = (h.0, all_end P ys x h.1 p)
 

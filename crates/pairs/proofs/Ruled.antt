@@ -2,7 +2,7 @@
 use Rattle.std.proofs.Common.{◌≡◌, ℕ, ◌<◌, ◌≤◌, true, ◌↔◌, List, [], ◌∷◌, length, take, Ok, Err, Result, sym, subst, ⊎_elim, arith}
 use mathlib.Core.HLevel.{⊥_prop}
 use mathlib.Core.Logic.{∥∥₁_elim}
-use Rattle.std.specs.List.{AllByRecursion as All}
+use Rattle.std.specs.List.{AllByRecursion}
 use Rattle.logic.specs.Counting.{Classes}
 use Rattle.logic.specs.Formula.{Formula, Letters}
 use Rattle.meaning.specs.declared.answers.Verdict.{Verdict}
@@ -18,7 +18,7 @@ use Rattle.pairs.specs.Verdicts.{Answers, Reads}
 
 -- ---- the words of walks have letters only
 
-among_all : (P : ℕ → Type 0) (xs : List ℕ) (t : ℕ) → All P xs → Among t xs → P t
+among_all : (P : ℕ → Type 0) (xs : List ℕ) (t : ℕ) → AllByRecursion P xs → Among t xs → P t
 among_all P [] t h a = absurd a
 among_all P (x ∷ xs) t h a = ⊎_elim (λ (e : t ≡ x). subst P (sym e) h.0) (λ (b : Among t xs). among_all P xs t h.1 b) a
 

@@ -1,6 +1,6 @@
 -- Reading names parted by commas. Assumes nothing.
 use Rattle.std.specs.Prelude.{◌≡◌, Bool, true, false, List, [], ◌∷◌, ◌++◌, Some, None, Option}
-use Rattle.std.specs.List.{AllByRecursion as All}
+use Rattle.std.specs.List.{AllByRecursion}
 use Rattle.meaning.specs.Bytes.{Text}
 use Rattle.meaning.specs.Names.{names_of}
 use Rattle.texts.specs.Fit.{Lower, FitName, Fit}
@@ -9,8 +9,8 @@ use Rattle.rules.specs.declared.names.Names.{Names}
 use Rattle.rules.specs.Names.{letters_of, names_held}
 
 abbrev pub AllLower : Bool → Text → Type 0
-AllLower true w = All Lower w
-AllLower false w = All Lower w → ⊥
+AllLower true w = AllByRecursion Lower w
+AllLower false w = AllByRecursion Lower w → ⊥
 
 -- the name that a word is
 abbrev pub NameIs : Text → Option Name → Type 0

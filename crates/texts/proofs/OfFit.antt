@@ -1,6 +1,6 @@
 -- The names that a sheet can be opened with are the fit names of the specification.
 use Rattle.std.proofs.Common.{◌≡◌, ℕ, zero, suc, ◌<◌, Bool, true, false, not, ◌&&◌, leb, List, [], ◌∷◌, length, get_or, codes, sym, refl, ◌∙◌, subst, arith}
-use Rattle.std.specs.List.{AllByRecursion as All}
+use Rattle.std.specs.List.{AllByRecursion}
 use Rattle.std.specs.Str.{bytes_eq}
 use Rattle.std.proofs.lemmas.Bool.{and_parts, and_from, false≢true, leb-true, le-leb, not_from_true, not_from_false}
 use Rattle.meaning.specs.Bytes.{Text, all, one_of, once}
@@ -18,11 +18,11 @@ not_true b n e = false≢true (sym (not_from_true b e) ∙ n)
 lower_of : (b : ℕ) → lowercase b ≡ true → Lower b
 lower_of b h = let k = and_parts (leb 97 b) _ h in (leb-true 97 b k.0, leb-true b 122 k.1)
 
-all_lower : (t : Text) → all lowercase t ≡ true → All Lower t
+all_lower : (t : Text) → all lowercase t ≡ true → AllByRecursion Lower t
 all_lower [] h = tt
 all_lower (b ∷ bs) h = let k = and_parts (lowercase b) _ h in (lower_of b k.0, all_lower bs k.1)
 
-lowercase_all : (t : Text) → All Lower t → all lowercase t ≡ true
+lowercase_all : (t : Text) → AllByRecursion Lower t → all lowercase t ≡ true
 lowercase_all [] h = refl
 lowercase_all (b ∷ bs) h = and_from (lowercase b) _ (and_from (leb 97 b) _ (le-leb 97 b h.0.0) (le-leb b 122 h.0.1)) (lowercase_all bs h.1)
 
@@ -48,11 +48,11 @@ name_of_fit t f =
 
 -- ---- several names
 
-fit_names_of : (ns : List Text) → all is_name ns ≡ true → All FitName ns
+fit_names_of : (ns : List Text) → all is_name ns ≡ true → AllByRecursion FitName ns
 fit_names_of [] h = tt
 fit_names_of (n ∷ ns) h = let k = and_parts (is_name n) _ h in (fit_name_of n k.0, fit_names_of ns k.1)
 
-names_of_fit : (ns : List Text) → All FitName ns → all is_name ns ≡ true
+names_of_fit : (ns : List Text) → AllByRecursion FitName ns → all is_name ns ≡ true
 names_of_fit [] h = refl
 names_of_fit (n ∷ ns) h = and_from (is_name n) _ (name_of_fit n h.0) (names_of_fit ns h.1)
 

@@ -1,7 +1,7 @@
 -- Names parted by commas, and which lists of names are fit.
 use Rattle.std.proofs.Common.{◌≡◌, ℕ, zero, suc, ◌+◌, ◌<◌, ◌≤◌, Bool, true, false, cond, eqb, List, [], ◌∷◌, ◌++◌, length, get_or, take, drop, Some, None, Option, sym, refl, ap, ◌∙◌, subst, inl, inr, add-one, arith, length-append}
 use lib.ListN.{get_or-append}
-use Rattle.std.specs.List.{AllByRecursion as All}
+use Rattle.std.specs.List.{AllByRecursion}
 use Rattle.std.specs.Str.{bytes_eq}
 use Rattle.std.proofs.ByRecursion.{All-get_or, All-push, All-more}
 use Rattle.std.proofs.lemmas.Bool.Decides.{nat_tests}
@@ -42,7 +42,7 @@ names_of_more (b ∷ bs) h = go (eqb b 44) h (names_of_more bs)
 fit_name : (ns ms : List (List ℕ)) (w : List ℕ) → Fit (ns ++ (w ∷ ms)) → FitName w
 fit_name ns ms w f = go ns f.each
   where
-    go : (ns : List (List ℕ)) → All FitName (ns ++ (w ∷ ms)) → FitName w
+    go : (ns : List (List ℕ)) → AllByRecursion FitName (ns ++ (w ∷ ms)) → FitName w
     go [] a = a.0
     go (n ∷ ns) a = go ns a.1
 
@@ -82,7 +82,7 @@ fit_join ns w f h n e =
       ];
     }
 
-len_front : (w z : List ℕ) → All Lower w → length_to 0 z ≡ 0 → length_to 0 (w ++ z) ≡ length w
+len_front : (w z : List ℕ) → AllByRecursion Lower w → length_to 0 z ≡ 0 → length_to 0 (w ++ z) ≡ length w
 len_front [] z a e = e
 len_front (b ∷ bs) z a e =
     let h = a.0.0 in
@@ -90,24 +90,24 @@ len_front (b ∷ bs) z a e =
     let ih = len_front bs z a.1 e in
     rw (t, ih, add-one)
 
-zeros : (xs : List ℕ) (k : ℕ) → All (λ b. b ≡ 0) xs → length_to 0 (drop k xs) ≡ 0
+zeros : (xs : List ℕ) (k : ℕ) → AllByRecursion (λ b. b ≡ 0) xs → length_to 0 (drop k xs) ≡ 0
 zeros [] zero a = refl
 zeros [] (suc k) a = refl
 zeros (b ∷ bs) zero a = let e : b ≡ 0 = a.0 in let t : eqb b 0 ≡ true = grind (arith, nat_tests) in rw t
 zeros (b ∷ bs) (suc k) a = zeros bs k a.1
 
-pub spelled_name : (c w xs : List ℕ) (k : ℕ) → c ≡ w → All (λ b. b ≡ 0) xs → All Lower w → take (length_to 0 (c ++ drop k xs)) (c ++ drop k xs) ≡ w
+pub spelled_name : (c w xs : List ℕ) (k : ℕ) → c ≡ w → AllByRecursion (λ b. b ≡ 0) xs → AllByRecursion Lower w → take (length_to 0 (c ++ drop k xs)) (c ++ drop k xs) ≡ w
 spelled_name c w xs k e z a =
     subst (λ (v : List ℕ). take (length_to 0 (v ++ drop k xs)) (v ++ drop k xs) ≡ w) (sym e)
     (ap (λ (j : ℕ). take j (w ++ drop k xs)) (len_front w (drop k xs) a (zeros xs k z)) ∙ take-append_seam w (drop k xs))
 
-pub not_lower : (w : List ℕ) (i : ℕ) (d : ℕ) → i < length w → (Lower (get_or w i d) → ⊥) → All Lower w → ⊥
+pub not_lower : (w : List ℕ) (i : ℕ) (d : ℕ) → i < length w → (Lower (get_or w i d) → ⊥) → AllByRecursion Lower w → ⊥
 not_lower w i d h n a = n (All-get_or Lower w i d h a)
 
-pub lower_more : (w : List ℕ) (i d : ℕ) → i < length w → All Lower (take i w) → Lower (get_or w i d) → All Lower (take (i + 1) w)
+pub lower_more : (w : List ℕ) (i d : ℕ) → i < length w → AllByRecursion Lower (take i w) → Lower (get_or w i d) → AllByRecursion Lower (take (i + 1) w)
 lower_more w i d h a l = All-more Lower w i d h a l
 
-pub name_fits : (w : List ℕ) → (length w ≡ 0 → ⊥) → length w ≤ 8 → All Lower w → None ≡ fixed_word w → FitName w
+pub name_fits : (w : List ℕ) → (length w ≡ 0 → ⊥) → length w ≤ 8 → AllByRecursion Lower w → None ≡ fixed_word w → FitName w
 unfolding fixed_word
 name_fits w z h a e = record {
   some = omega (arith, pos (length w) z);
@@ -137,15 +137,15 @@ opens_none ns rest w e n f = go (length (drop (length_to 44 rest) rest)) refl
 pub fit_none : Fit []
 fit_none = record { few = omega arith; each = tt; differ = λ i j a b q. absurd (omega arith) }
 
-pub eight : All {X = ℕ} (λ b. b ≡ 0) (0 ∷ (0 ∷ (0 ∷ (0 ∷ (0 ∷ (0 ∷ (0 ∷ (0 ∷ []))))))))
+pub eight : AllByRecursion {X = ℕ} (λ b. b ≡ 0) (0 ∷ (0 ∷ (0 ∷ (0 ∷ (0 ∷ (0 ∷ (0 ∷ (0 ∷ []))))))))
 eight = (refl, (refl, (refl, (refl, (refl, (refl, (refl, (refl, tt))))))))
 
-pub lower_all : (w : List ℕ) (i : ℕ) → length w ≤ i → All Lower (take i w) → All Lower w
+pub lower_all : (w : List ℕ) (i : ℕ) → length w ≤ i → AllByRecursion Lower (take i w) → AllByRecursion Lower w
 lower_all [] i h a = tt
 lower_all (b ∷ bs) zero h a = absurd (omega arith)
 lower_all (b ∷ bs) (suc i) h a = (a.0, lower_all bs i (omega arith) a.1)
 
-pub spelled_eight : (c w : List ℕ) (k : ℕ) → c ≡ w → All Lower w → take (length_to 0 (c ++ drop k (0 ∷ (0 ∷ (0 ∷ (0 ∷ (0 ∷ (0 ∷ (0 ∷ (0 ∷ [])))))))))) (c ++ drop k (0 ∷ (0 ∷ (0 ∷ (0 ∷ (0 ∷ (0 ∷ (0 ∷ (0 ∷ []))))))))) ≡ w
+pub spelled_eight : (c w : List ℕ) (k : ℕ) → c ≡ w → AllByRecursion Lower w → take (length_to 0 (c ++ drop k (0 ∷ (0 ∷ (0 ∷ (0 ∷ (0 ∷ (0 ∷ (0 ∷ (0 ∷ [])))))))))) (c ++ drop k (0 ∷ (0 ∷ (0 ∷ (0 ∷ (0 ∷ (0 ∷ (0 ∷ (0 ∷ []))))))))) ≡ w
 spelled_eight c w k e a = spelled_name c w (0 ∷ (0 ∷ (0 ∷ (0 ∷ (0 ∷ (0 ∷ (0 ∷ (0 ∷ [])))))))) k e eight a
 
 -- a text has at least one name, which may be unfit

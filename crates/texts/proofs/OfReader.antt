@@ -1,7 +1,7 @@
 -- The reader finds the fault of the specification.
 use Rattle.std.proofs.Common.{◌≡◌, ℕ, zero, suc, ◌+◌, ◌-◌, ◌<◌, ◌≤◌, Bool, true, false, cond, ◌&&◌, ◌||◌, eqb, leb, List, [], ◌∷◌, ◌++◌, length, get_or, take, drop, Some, None, Ok, Err, codes, Option, Result, sym, refl, ap, ◌∙◌, subst, ap₂, add-one, arith, length-append, take-append-drop}
 use Rattle.std.specs.Str.{bytes_eq}
-use Rattle.std.specs.List.{AllByRecursion as All}
+use Rattle.std.specs.List.{AllByRecursion}
 use Rattle.std.proofs.lemmas.Bool.{and_right, cond-true, cond-false, le-leb, lt-leb}
 use Rattle.std.proofs.lemmas.Slice.Eq.{bytes_eq-Decides}
 use Rattle.logic.specs.Rule.{Rule}
@@ -229,7 +229,7 @@ module _ (ns : List Text) (total : ℕ) where
 
 -- ---- the whole text
 
-no_empty_name : (ns : List Text) → All FitName ns → operands ns [] ≡ None
+no_empty_name : (ns : List Text) → AllByRecursion FitName ns → operands ns [] ≡ None
 no_empty_name [] h = refl
 no_empty_name ([] ∷ ns) h = absurd (omega (arith, h.0.some))
 no_empty_name ((c ∷ cs) ∷ ns) h = no_empty_name ns h.1

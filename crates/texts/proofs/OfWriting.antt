@@ -1,7 +1,7 @@
 -- Reading finds what is written, and only that.
 use Rattle.std.proofs.Common.{◌≡◌, ℕ, zero, suc, ◌+◌, ◌-◌, ◌<◌, ◌≤◌, Bool, true, false, cond, eqb, List, [], ◌∷◌, ◌++◌, length, get_or, take, drop, Some, None, Ok, Err, codes, Option, Result, sym, refl, ap, ◌∙◌, subst, append_assoc, add-one, arith, length-append, take-append-drop, true-eqb}
 use Rattle.std.specs.Str.{bytes_eq}
-use Rattle.std.specs.List.{AllByRecursion as All}
+use Rattle.std.specs.List.{AllByRecursion}
 use Rattle.std.proofs.ByRecursion.{All-get_or}
 use Rattle.std.proofs.lemmas.Bool.Decides.{nat_tests}
 use Rattle.std.proofs.lemmas.Slice.Eq.{bytes_eq-Decides}
@@ -212,7 +212,7 @@ what_is_read_is_written ns total d w r rest e = (parse_good ns total d w r rest 
 -- ---- completeness
 
 -- no byte of u is a space, and what follows u ends it
-len_written : (u rest : List ℕ) → All (λ b. b ≡ 32 → ⊥) u → Ends rest → length_to 32 (u ++ rest) ≡ length u
+len_written : (u rest : List ℕ) → AllByRecursion (λ b. b ≡ 32 → ⊥) u → Ends rest → length_to 32 (u ++ rest) ≡ length u
 len_written [] [] a e = refl
 len_written [] (b ∷ bs) a e = let t : eqb b 32 ≡ true = grind (arith, nat_tests) in rw t
 len_written (b ∷ bs) rest a e =
@@ -221,14 +221,14 @@ len_written (b ∷ bs) rest a e =
     let ih = len_written bs rest a.1 e in
     rw (t, ih, add-one)
 
-heads_written : (ns : List (List ℕ)) (total d : ℕ) (u rest : List ℕ) (x : Word) → 0 < length u → All (λ b. b ≡ 32 → ⊥) u → Ends rest → word_of ns u ≡ Some x
+heads_written : (ns : List (List ℕ)) (total d : ℕ) (u rest : List ℕ) (x : Word) → 0 < length u → AllByRecursion (λ b. b ≡ 32 → ⊥) u → Ends rest → word_of ns u ≡ Some x
     → heads ns total d (u ++ rest) ≡ allowed (total - length (u ++ rest)) d (Some x) rest
 heads_written ns total d u rest x h a e w =
     let l = len_written u rest a e in
     let s = length-append u rest in
     heads_some ns total d (length u) (total - length (u ++ rest)) (u ++ rest) u rest (Some x) refl (λ z. absurd (omega arith)) (sym l) (sym (take-append_seam u rest)) (sym (drop-append_seam u rest)) (sym w)
 
-no_space : (w : List ℕ) → All Lower w → All (λ b. b ≡ 32 → ⊥) w
+no_space : (w : List ℕ) → AllByRecursion Lower w → AllByRecursion (λ b. b ≡ 32 → ⊥) w
 no_space [] a = tt
 no_space (b ∷ bs) a = ((λ e. absurd (omega (arith, a.0.0))), no_space bs a.1)
 
@@ -279,7 +279,7 @@ word_back ns f (Two Release) v = refl
 clean : (b : ℕ) → eqb b 32 ≡ false → b ≡ 32 → ⊥
 clean b t e = let z : eqb b 32 ≡ true = grind (arith, nat_tests) in let y : ◌≡◌ {A = ℕ} 0 1 = cc in absurd (omega arith)
 
-word_clean : (ns : List (List ℕ)) → Fit ns → (x : Word) → WordNamed (length ns) x → (0 < length (spelled ns x)) × All (λ b. b ≡ 32 → ⊥) (spelled ns x)
+word_clean : (ns : List (List ℕ)) → Fit ns → (x : Word) → WordNamed (length ns) x → (0 < length (spelled ns x)) × AllByRecursion (λ b. b ≡ 32 → ⊥) (spelled ns x)
 word_clean ns f (Zero True) v = (omega arith, (clean 116 refl, (clean 114 refl, (clean 117 refl, (clean 101 refl, tt)))))
 word_clean ns f (Zero False) v = (omega arith, (clean 102 refl, (clean 97 refl, (clean 108 refl, (clean 115 refl, (clean 101 refl, tt))))))
 word_clean ns f (Zero (Name i)) v = let n = All-get_or FitName ns i [] v f.each in (n.some, no_space (get_or ns i []) n.lower)

@@ -1,6 +1,6 @@
 -- Names that a sheet can be opened with, and what reading a text means. Assumes nothing.
 use Rattle.std.specs.Prelude.{◌≡◌, ℕ, ◌<◌, ◌≤◌, true, ◌↔◌, List, [], ◌∷◌, ◌++◌, length, Ok, codes, ◌≢◌, slice_index_or}
-use Rattle.std.specs.List.{AllByRecursion as All}
+use Rattle.std.specs.List.{AllByRecursion}
 use Rattle.logic.specs.Rule.{Rule}
 use Rattle.meaning.specs.Bytes.{Text}
 use Rattle.meaning.specs.Names.{fit_names}
@@ -15,14 +15,14 @@ Lower b = (97 ≤ b) × (b ≤ 122)
 pub record FitName (w : Text) : Type 0 where
   pub some : 0 < length w
   pub short : length w ≤ 8
-  pub lower : All Lower w
+  pub lower : AllByRecursion Lower w
   pub not_true : w ≡ codes "true" → ⊥
   pub not_false : w ≡ codes "false" → ⊥
 
 -- up to eight names, each once
 pub record Fit (ns : List Text) : Type 0 where
   pub few : length ns ≤ 8
-  pub each : All FitName ns
+  pub each : AllByRecursion FitName ns
   pub differ : (i j : ℕ) → i < j → j < length ns → slice_index_or ns i [] ≢ slice_index_or ns j []
 
 -- at least one of them: these are the fit names of the specification

@@ -6,7 +6,7 @@ ghost use Rattle.meaning.specs.Calls.{History, filling};
 ghost use Rattle.rules.specs.Kept.{formula_of};
 ghost use Rattle.rules.specs.Led.{SheetLed};
 ghost use Rattle.rules.specs.Model.{Stands};
-ghost use Rattle.charting.specs.Filled.{Filling, Refusing};
+ghost use Rattle.charting.specs.Filled.{FillingOnce, Refusing};
 ghost use Rattle.charts.specs.Fills.{areas, ReadyWith, Emptied, Left, Fills};
 ghost use Rattle.charts.specs.Led.{ChartLed, Answered};
 
@@ -39,7 +39,7 @@ impl<'a> Chart<'a> {
         ensures lent { (self.new.labels.ghost_name ≡ self.old.labels.ghost_name) × (self.new.standings.ghost_name ≡ self.old.standings.ghost_name) × (self.new.next.ghost_name ≡ self.old.next.ghost_name) }
         ensures sizes { areas self.new ≡ areas self.old }
         ensures left { MatchResult result (λ p. ReadyWith p self.new) (λ _. Emptied self.new) }
-        ensures filled { MatchResult result (λ p. Filling (formula_of formula.now) (areas self.old) self.new.labels.now p.0 self.new.standings.now p.1 self.new.next.now) (λ e. Refusing (formula_of formula.now) (areas self.old) e) }
+        ensures filled { MatchResult result (λ p. FillingOnce (formula_of formula.now) (areas self.old) self.new.labels.now p.0 self.new.standings.now p.1 self.new.next.now) (λ e. Refusing (formula_of formula.now) (areas self.old) e) }
     {
         self.state = State::Blank;
         self.label_count = 0;

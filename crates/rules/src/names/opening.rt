@@ -1,6 +1,6 @@
 // Reading names parted by commas.
 ghost use Rattle.std.specs.Prelude.{◌≡◌, ◌≤◌, [], length};
-ghost use Rattle.std.specs.List.{AllByRecursion as All};
+ghost use Rattle.std.specs.List.{AllByRecursion};
 ghost use Rattle.rules.specs.Names.{letters_of, names_held};
 ghost use Rattle.texts.specs.Fit.{Lower, Fit};
 ghost use Rattle.rules.specs.Opening.{AllLower, NameIs, Joins, Opens};
@@ -24,7 +24,7 @@ fn is_lowercase(word: &[u8]) -> bool
 // The name of up to eight letters.
 fn spell(word: &[u8]) -> Name
     requires { length word.now ≤ 8 }
-    ensures { All Lower word.now → letters_of result ≡ word.now }
+    ensures { AllByRecursion Lower word.now → letters_of result ≡ word.now }
 {
     let mut letters = [0; 8];
     let n = word.len();

@@ -3,7 +3,7 @@ use Rattle.rules.specs.Kept.{formula_of}
 use Rattle.charting.specs.Breaches.{kept_of}
 use Rattle.charting.proofs.OfBreach.{root_bit}
 use Rattle.charting.proofs.WalkSteps.{reached_first}
-use Rattle.charting.proofs.StandingEnds.{filled, too_many_standings, rows_closed}
+use Rattle.charting.proofs.StandingEnds.{filled_once, too_many_standings, rows_closed}
 use Rattle.charts.proofs.filling.fill_places.Goals as goal
 
 pub all_standings-requires : goal.all_standings-requires
@@ -41,6 +41,6 @@ returns c =
     let few : c.in-Some.a ≤ 512 = omega (arith, lab.fits, c.requires.labels) in
     let ch = c.in-Some-all_standings.ensures.charted in
     let room : c.in-Some-all_standings.b * 256 ≤ length c.all_standings.new.next = omega (arith, ch.fits, c.requires.next) in
-    filled (formula_of b) (kept_of b) c.root_place-place.result (root_bit b c.root_place-place.result at.within at.is)
+    filled_once (formula_of b) (kept_of b) c.root_place-place.result (root_bit b c.root_place-place.result at.within at.is)
     c.all_labels.new.area c.all_labels.new.table c.in-Some.a few lab c.first_standing-first.result c.first_standing-first.ensures
     c.all_standings.new.area c.in-Some-all_standings.b c.all_standings.new.next ch room

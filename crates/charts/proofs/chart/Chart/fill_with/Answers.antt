@@ -16,13 +16,13 @@ invariant_of-self c = record {
 pub invariant_of-self-2 : goal.invariant_of-self-2
 invariant_of-self-2 c =
     let e = c.in_ok-a.ensures in
-    let x = e.filled in
+    let x = e.filling.filled in
     record {
       labelled = x.labels_fit;
       stood = x.standings_fit;
       stepped = x.next_fit;
       closed = x.closed;
       enough = x.within [] tt;
-      few = omega (arith, e.standings_fit);
+      few = omega (arith, e.filling.standings_fit);
       whole = filled_sound _ _ _ _ _ _ _ e;
     }
