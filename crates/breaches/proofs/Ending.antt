@@ -25,7 +25,7 @@ use Rattle.pairs.specs.Readers.{Reader}
 use Rattle.pairs.specs.Verdicts.{Answers, Reads}
 use Rattle.pairs.proofs.Ruled.{searches}
 use Rattle.breaches.specs.Charts.{reader_of, standings_of}
-use Rattle.breaches.specs.Searched.{GoneBy, Searched, Early, Within}
+use Rattle.breaches.specs.Searched.{GoneBy, Searched, SearchedAsRead, Early, Within}
 
 -- a blank chart has no standings, and any other has one
 pub blank_none : (s : State) (n : ℕ) → n ≤ most s → blank s ≡ true → n ≡ 0
@@ -68,13 +68,22 @@ gone_by c m room before x after e each =
     record { filled = some; some = reads_some c some; each = each }
 
 pub searched : (c : Chart) (m : Meaning) → Lawful m → (room : ℕ) (before after : List ℕ) (x : Result Verdict SearchingFault) → blank c.state ≡ false → Searchable m room (length before)
-    → length after ≡ length before → Answers m (reader_of c) room before after x → Searched c m room before x after
+    → length after ≡ length before → Answers m (reader_of c) room before after x → SearchedAsRead c m room before x after
 searched c m l room before after (Ok v) b s e h = gone_by c m room before (Ok v) after b (λ f reads. searches m l f (reader_of c) reads room before after (Ok v) s e h)
 searched c m l room before after (Err PairsExceed) b s e h = gone_by c m room before (Err PairsExceed) after b (λ f reads. searches m l f (reader_of c) reads room before after (Err PairsExceed) s e h)
 searched c m l room before after (Err Blank) b s e h = absurd h
 searched c m l room before after (Err NoStart) b s e h = absurd h
 searched c m l room before after (Err ManyStates) b s e h = absurd h
 searched c m l room before after (Err ShortWalkArea) b s e h = absurd h
+
+-- right for each formula that it reads, whether or not it reads one
+pub for_each : (c : Chart) (m : Meaning) (room : ℕ) (before after : List ℕ) (x : Result Verdict SearchingFault) → SearchedAsRead c m room before x after → Searched c m room before x after
+for_each c m room before after (Err Blank) h = h
+for_each c m room before after (Err NoStart) h = h.each
+for_each c m room before after (Err ManyStates) h = h.each
+for_each c m room before after (Err ShortWalkArea) h = h.each
+for_each c m room before after (Err PairsExceed) h = h.each
+for_each c m room before after (Ok v) h = h.each
 
 -- ---- in the words of histories
 
@@ -83,7 +92,7 @@ module _ (c : Chart) (t : Option (List ℕ)) (m : Meaning) (room : ℕ) (before 
   not_filled : mode_of c.state ≡ mode.blank → 0 < standings_of c → ⊥
   not_filled e l = let n = subst (λ s. standings_of c ≤ most s) (no_rule_blank c.state e) c.few in omega arith
 
-  pub no_rule_right : (x : Result Verdict SearchingFault) → mode_of c.state ≡ mode.blank → Searched c m room before x after → RightSearching None m room before (x, after)
+  pub no_rule_right : (x : Result Verdict SearchingFault) → mode_of c.state ≡ mode.blank → SearchedAsRead c m room before x after → RightSearching None m room before (x, after)
   no_rule_right (Err Blank) e h = ap (λ (w : List ℕ). (Err Blank, w)) h.1
   no_rule_right (Err NoStart) e h = absurd (not_filled e h.filled)
   no_rule_right (Err ManyStates) e h = absurd (not_filled e h.filled)
@@ -104,7 +113,7 @@ module _ (c : Chart) (t : Option (List ℕ)) (m : Meaning) (room : ℕ) (before 
           (empty_first c.labels.now c.label_count c.standings.now c.standing_count c.next.now c.state c.whole not_blank)),
     ))
 
-    pub rule_right : (x : Result Verdict SearchingFault) → Searched c m room before x after → RightSearching (Some r) m room before (x, after)
+    pub rule_right : (x : Result Verdict SearchingFault) → SearchedAsRead c m room before x after → RightSearching (Some r) m room before (x, after)
     rule_right (Err Blank) h = absurd (not_blank (none_blank c.state (standings_of c) c.enough h.0))
     rule_right (Err NoStart) h = for_rule (Err NoStart) h
     rule_right (Err ManyStates) h = for_rule (Err ManyStates) h
@@ -112,11 +121,11 @@ module _ (c : Chart) (t : Option (List ℕ)) (m : Meaning) (room : ℕ) (before 
     rule_right (Err PairsExceed) h = for_rule (Err PairsExceed) h
     rule_right (Ok v) h = for_rule (Ok v) h
 
-  pub right : (o : Option Ruled) (x : Result Verdict SearchingFault) → ChartIs o t (held_of c) (mode_of c.state) → Searched c m room before x after → RightSearching o m room before (x, after)
+  pub right : (o : Option Ruled) (x : Result Verdict SearchingFault) → ChartIs o t (held_of c) (mode_of c.state) → SearchedAsRead c m room before x after → RightSearching o m room before (x, after)
   right None x led h = no_rule_right x led.0 h
   right (Some r) x led h = rule_right r led x h
 
-pub answered : (c : Chart) (m : Meaning) (room : ℕ) (before after : List ℕ) (x : Result Verdict SearchingFault) → Searched c m room before x after
+pub answered : (c : Chart) (m : Meaning) (room : ℕ) (before after : List ℕ) (x : Result Verdict SearchingFault) → SearchedAsRead c m room before x after
     → (h : History) (n : ℕ) (k : Machine) → ChartLed h n c → meaning_of h k ≡ m → Right h (searching n k room before) (x, after)
 answered c m room before after x is h n k led e =
     subst (λ (z : Meaning). RightSearching (filled_rule h n) z room before (x, after)) (sym e) (right c (watch h n) m room before after (filled_rule h n) x led is)

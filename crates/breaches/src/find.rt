@@ -8,7 +8,7 @@ ghost use Rattle.charts.specs.Led.{ChartLed};
 ghost use Rattle.pairs.specs.Stages.{Rooted, depth_at, chain};
 ghost use Rattle.pairs.specs.Verdicts.{Answers};
 ghost use Rattle.breaches.specs.Charts.{reader_of, standings_of};
-ghost use Rattle.breaches.specs.Searched.{Searched, Early, Within};
+ghost use Rattle.breaches.specs.Searched.{Searched, SearchedAsRead, Early, Within};
 
 use crate::levels::{begin, entry, level};
 use charts::chart::Chart;
@@ -90,8 +90,9 @@ pub fn find_breach<M: Machine>(
     pairs: &mut [Pair],
     walk: &mut [usize],
 ) -> Result<Verdict, SearchingFault>
-    ensures answers { (h : History) (c : ℕ) (k : Called) → ChartLed h c chart.now → meaning_of h k ≡ M.Machine.meaning machine.now → Right h (looking c k (length pairs.old) walk.old) (result, walk.new) }
-    ensures reads { Searched chart.now (M.Machine.meaning machine.now) (length pairs.old) walk.old result walk.new }
+    ensures answers { Searched chart.now (M.Machine.meaning machine.now) (length pairs.old) walk.old result walk.new }
+    ensures reads { SearchedAsRead chart.now (M.Machine.meaning machine.now) (length pairs.old) walk.old result walk.new }
+    ensures led { (h : History) (c : ℕ) (k : Called) → ChartLed h c chart.now → meaning_of h k ≡ M.Machine.meaning machine.now → Right h (looking c k (length pairs.old) walk.old) (result, walk.new) }
     ensures within { Within result (length walk.new) }
     ensures early { Early result → pairs.new ≡ pairs.old }
 {

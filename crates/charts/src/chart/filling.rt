@@ -25,7 +25,7 @@ impl<'a> Chart<'a> {
         ensures lent { (self.new.labels.ghost_name ≡ self.old.labels.ghost_name) × (self.new.standings.ghost_name ≡ self.old.standings.ghost_name) × (self.new.next.ghost_name ≡ self.old.next.ghost_name) }
         ensures sizes { areas self.new ≡ areas self.old }
         ensures left { Left result self.old self.new }
-        ensures answers { (h : History) (c s : ℕ) → SheetLed h s sheet.now → ChartLed h c self.old → Answered h c (filling c s rule (areas self.old)) result self.new }
+        ensures led { (h : History) (c s : ℕ) → SheetLed h s sheet.now → ChartLed h c self.old → Answered h c (filling c s rule (areas self.old)) result self.new }
         ensures fills { (ns : List Text) (fs : List Formula) → Stands sheet.now ns fs → Fills fs rule result self.old self.new }
     {
         let Some(formula) = sheet.breach(rule) else {

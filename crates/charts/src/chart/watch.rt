@@ -16,7 +16,7 @@ impl<'a> Chart<'a> {
     pub fn begin(&mut self) -> Result<(), BeginningFault>
         ensures begins { (result, self.new.state) ≡ begun self.old.state }
         ensures watches { Begun self.old self.new result }
-        ensures answers { (h : History) (c : ℕ) → ChartLed h c self.old → Answered h c (beginning c) result self.new }
+        ensures led { (h : History) (c : ℕ) → ChartLed h c self.old → Answered h c (beginning c) result self.new }
         ensures stays { (self.new.labels ≡ self.old.labels) × (self.new.standings ≡ self.old.standings) × (self.new.next ≡ self.old.next) × (self.new.label_count ≡ self.old.label_count) × (self.new.standing_count ≡ self.old.standing_count) }
     {
         match self.react(Event::Begin) {
@@ -29,7 +29,7 @@ impl<'a> Chart<'a> {
     pub fn scan(&mut self, letter: u8) -> Result<Scanned, ScanningFault>
         ensures scans { (result, self.new.state) ≡ scanned self.old.standings.now self.old.next.now self.old.state letter }
         ensures watches { Scans self.old self.new letter result }
-        ensures answers { (h : History) (c : ℕ) → ChartLed h c self.old → Answered h c (scanning c letter) result self.new }
+        ensures led { (h : History) (c : ℕ) → ChartLed h c self.old → Answered h c (scanning c letter) result self.new }
         ensures stays { (self.new.labels ≡ self.old.labels) × (self.new.standings ≡ self.old.standings) × (self.new.next ≡ self.old.next) × (self.new.label_count ≡ self.old.label_count) × (self.new.standing_count ≡ self.old.standing_count) }
     {
         self.react(Event::Scan { letter })

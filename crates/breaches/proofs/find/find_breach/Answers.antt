@@ -4,8 +4,8 @@ use Rattle.pairs.specs.declared.pair.Pair.{Pair}
 use Rattle.pairs.specs.Verdicts.{Answers}
 use Rattle.charts.specs.Watch.{blank}
 use Rattle.breaches.specs.Charts.{reader_of, standings_of}
-use Rattle.breaches.specs.Searched.{Searched}
-use Rattle.breaches.proofs.Ending.{blank_none, filled_some, searchable, no_starts, gone_by, searched, answered, not_early, within}
+use Rattle.breaches.specs.Searched.{SearchedAsRead}
+use Rattle.breaches.proofs.Ending.{blank_none, filled_some, searchable, no_starts, gone_by, searched, for_each, answered, not_early, within}
 use Rattle.breaches.proofs.find.find_breach.Goals as goal
 
 pub returns-then-is_blank : goal.returns-then-is_blank
@@ -14,8 +14,8 @@ returns-then-is_blank g c =
     let m = g.M.Machine.meaning c.args.machine.now in
     let w = c.args.walk.now in
     let p = length c.args.pairs.now in
-    let is : Searched d m p w (Err Blank) w = (blank_none d.state (standings_of d) d.few (sym c.is_blank.ensures ∙ c.if-is_blank.true), refl) in
-    record { answers = answered d m p w w (Err Blank) is; reads = is; within = tt; early = λ e. refl }
+    let is : SearchedAsRead d m p w (Err Blank) w = (blank_none d.state (standings_of d) d.few (sym c.is_blank.ensures ∙ c.if-is_blank.true), refl) in
+    record { answers = for_each d m p w w (Err Blank) is; led = answered d m p w w (Err Blank) is; reads = is; within = tt; early = λ e. refl }
 
 pub returns-then-start_count-eq0 : goal.returns-then-start_count-eq0
 returns-then-start_count-eq0 g c =
@@ -24,9 +24,9 @@ returns-then-start_count-eq0 g c =
     let w = c.args.walk.now in
     let p = length c.args.pairs.now in
     let filled : blank d.state ≡ false = sym c.is_blank.ensures ∙ c.if-is_blank.false in
-    let is : Searched d m p w (Err NoStart) w = gone_by d m p w (Err NoStart) w filled
+    let is : SearchedAsRead d m p w (Err NoStart) w = gone_by d m p w (Err NoStart) w filled
     (λ f reads. (no_starts m.starts (omega (arith, c.start_count.ensures, c.if-start_count-eq0.true)), refl)) in
-    record { answers = answered d m p w w (Err NoStart) is; reads = is; within = tt; early = λ e. refl }
+    record { answers = for_each d m p w w (Err NoStart) is; led = answered d m p w w (Err NoStart) is; reads = is; within = tt; early = λ e. refl }
 
 pub returns-then-count-gt65536 : goal.returns-then-count-gt65536
 returns-then-count-gt65536 g c =
@@ -35,9 +35,9 @@ returns-then-count-gt65536 g c =
     let w = c.args.walk.now in
     let p = length c.args.pairs.now in
     let filled : blank d.state ≡ false = sym c.is_blank.ensures ∙ c.if-is_blank.false in
-    let is : Searched d m p w (Err ManyStates) w = gone_by d m p w (Err ManyStates) w filled
+    let is : SearchedAsRead d m p w (Err ManyStates) w = gone_by d m p w (Err ManyStates) w filled
     (λ f reads. ((λ e. c.if-start_count-eq0.false (c.start_count.ensures ∙ ap length e)), omega arith, refl)) in
-    record { answers = answered d m p w w (Err ManyStates) is; reads = is; within = tt; early = λ e. refl }
+    record { answers = for_each d m p w w (Err ManyStates) is; led = answered d m p w w (Err ManyStates) is; reads = is; within = tt; early = λ e. refl }
 
 pub returns-then-walk-pairs : goal.returns-then-walk-pairs
 returns-then-walk-pairs g c =
@@ -46,9 +46,9 @@ returns-then-walk-pairs g c =
     let w = c.args.walk.now in
     let p = length c.args.pairs.now in
     let filled : blank d.state ≡ false = sym c.is_blank.ensures ∙ c.if-is_blank.false in
-    let is : Searched d m p w (Err ShortWalkArea) w = gone_by d m p w (Err ShortWalkArea) w filled
+    let is : SearchedAsRead d m p w (Err ShortWalkArea) w = gone_by d m p w (Err ShortWalkArea) w filled
     (λ f reads. ((λ e. c.if-start_count-eq0.false (c.start_count.ensures ∙ ap length e)), omega arith, omega arith, refl)) in
-    record { answers = answered d m p w w (Err ShortWalkArea) is; reads = is; within = tt; early = λ e. refl }
+    record { answers = for_each d m p w w (Err ShortWalkArea) is; led = answered d m p w w (Err ShortWalkArea) is; reads = is; within = tt; early = λ e. refl }
 
 pub returns : goal.returns
 returns g c =
@@ -63,7 +63,7 @@ returns g c =
     let s = searchable m p (length w) (λ e. omega arith) (omega arith) (omega arith) in
     let is = searched d m (g.M.Machine.lawful c.args.machine.now) p w w' x filled s c.run.auto.walk h in
     record {
-      answers = answered d m p w w' x is;
+      answers = for_each d m p w w' x is; led = answered d m p w w' x is;
       reads = is;
       within = within m (reader_of d) p w w' x h;
       early = λ e. absurd (not_early m (reader_of d) p w w' x h e);

@@ -15,7 +15,7 @@ returns-in_default c =
       lent = (refl, refl, refl);
       sizes = refl;
       left = refl;
-      answers = λ h k s is led. fill_answered h k s c.args.rule c.args.sheet.now d d is (Err NoRule) refl c.in_default.ensures led;
+      led = λ h k s is led. fill_answered h k s c.args.rule c.args.sheet.now d d is (Err NoRule) refl c.in_default.ensures led;
       fills = c.in_default.ensures;
     }
 
@@ -33,6 +33,6 @@ returns c =
       lent = c.fill_with.ensures.lent;
       sizes = c.fill_with.ensures.sizes;
       left = left;
-      answers = λ h k s is led. fill_answered h k s c.args.rule c.args.sheet.now d e is r left fills led;
+      led = λ h k s is led. fill_answered h k s c.args.rule c.args.sheet.now d e is r left fills led;
       fills = λ ns fs st. plainly fs c.args.rule r d e (fills ns fs st);
     }

@@ -10,6 +10,6 @@ returns c =
     record {
       scans = e;
       watches = scans c.args.self.now c.react.new.self s.0 s.1 s.2 s.3 s.4 c.args.letter (omega arith) c.react.result e;
-      answers = scans_led c.args.self.now c.react.new.self s.0 s.1 s.2 s.3 s.4 c.args.letter (omega arith) c.react.result e;
+      led = scans_led c.args.self.now c.react.new.self s.0 s.1 s.2 s.3 s.4 c.args.letter (omega arith) c.react.result e;
       stays = s;
     }
