@@ -6,12 +6,18 @@ use Rattle.meaning.specs.Bytes.{Text}
 use Rattle.meaning.specs.Kinds.{Lines, no_lines}
 use Rattle.meaning.specs.Files.{content, lines_in}
 use Rattle.rules.specs.declared.sheet.Sheet.{Sheet}
+use Rattle.rules.specs.Model.{Stands}
 use Rattle.rules.specs.Led.{SheetIs}
 
 -- the line beside what was said of it
 abbrev pub with_line : ℕ → Result (Unit {0}) LineFault → Result (Unit {0}) FileFault
 with_line n (Ok u) = Ok u
 with_line n (Err e) = Err (record { line = n; fault = e })
+
+-- a refused loading leaves a blank sheet and a table without lines
+abbrev pub Cleared : Result (Unit {0}) FileFault → Sheet → Lines → Type 0
+Cleared (Ok u) s t = Unit {0}
+Cleared (Err x) s t = Stands s [] [] × (t ≡ no_lines)
 
 -- the sheet has the names and rules of the file, and the table its states and steps
 abbrev pub HasFile : Text → Sheet → Lines → Type 0

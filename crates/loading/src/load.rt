@@ -2,7 +2,7 @@
 ghost use Rattle.std.specs.Prelude.{◌≡◌, OnOk};
 ghost use Rattle.meaning.specs.Files.{RightLoading};
 ghost use Rattle.machines.specs.Held.{held_lines, rooms_of};
-ghost use Rattle.loading.specs.Loads.{with_line, HasFile, Blank, Loaded};
+ghost use Rattle.loading.specs.Loads.{with_line, Cleared, HasFile, Blank, Loaded};
 ghost use Rattle.loading.specs.Led.{LedByLoading};
 
 use crate::taking::take_line;
@@ -57,6 +57,7 @@ fn load_lines(sheet: &mut Sheet, table: &mut Table, file: &[u8]) -> Result<(), F
 // Loads a file; what the sheet and the table held before is dropped. A refusal leaves both blank.
 pub fn load(sheet: &mut Sheet, table: &mut Table, file: &[u8]) -> Result<(), FileFault>
     ensures answer { RightLoading (rooms_of table.old) file.now result }
+    ensures cleared { Cleared result sheet.new (held_lines table.new) }
     ensures loads { Loaded file.now result sheet.new (held_lines table.new) }
     ensures led { LedByLoading (rooms_of table.old) file.now result sheet.new table.new }
     ensures rooms { rooms_of table.new ≡ rooms_of table.old }

@@ -13,6 +13,7 @@ returns-in-Ok c =
     let a = subst (λ (q : Rooms). RightLoading q file (Ok tt)) t.rooms f.answer in
     record {
       answer = a;
+      cleared = tt;
       loads = f.accepted;
       led = led_by (rooms_of c.args.table.now) file (Ok tt) c.load_lines-loaded.new.sheet c.load_lines-loaded.new.table a f.accepted;
       rooms = f.rooms ∙ t.rooms;
@@ -31,6 +32,7 @@ returns-in-Err c =
     let b : Blank c.clear-in-Err.new.self (held_lines c.clear-in-Err-2.new.self) = (c.clear-in-Err.ensures.is, u.lines) in
     record {
       answer = a;
+      cleared = (c.clear-in-Err.ensures.stands, u.lines);
       loads = b;
       led = led_by (rooms_of c.args.table.now) file (Err x) c.clear-in-Err.new.self c.clear-in-Err-2.new.self a b;
       rooms = u.rooms ∙ (f.rooms ∙ t.rooms);
