@@ -1,5 +1,5 @@
 -- The answer of a search, from what its reader says to each formula that this reads.
-use Rattle.std.proofs.Common.{◌≡◌, ℕ, ◌+◌, ◌<◌, ◌≤◌, true, false, List, [], ◌∷◌, length, Some, None, Ok, Err, Option, Result, sym, refl, ap, subst, arith}
+use Rattle.std.proofs.Common.{◌≡◌, ℕ, ◌<◌, ◌≤◌, true, false, List, [], ◌∷◌, length, Some, None, Ok, Err, Option, Result, sym, refl, ap, subst, arith}
 use mathlib.Core.Logic.{∥∥₁_map}
 use mathlib.Core.Bool.{false≢true}
 use Rattle.meaning.specs.declared.answers.Verdict.{Verdict}

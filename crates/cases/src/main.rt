@@ -1,5 +1,7 @@
 // Runs tables of cases that were made by an independent implementation: numbers of labels and standings, watches, and breaches found over tables, rounds
 // and stuck layers with given pair rooms. Lines that begin with # are comments; the first one names the columns.
+#![tactic(auto)]
+
 mod areas;
 mod counts;
 mod lookups;

@@ -1,5 +1,5 @@
 -- The counts and refusals of a filling, in the words of the specification. Assumes nothing.
-use Rattle.std.proofs.Common.{◌≡◌, ℕ, ◌≤◌, List, length, take, Ok, Err, sym, ◌∙◌, subst, ap₂, length-take-le}
+use Rattle.std.proofs.Common.{ℕ, ◌≤◌, List, length, Ok, Err, sym, ◌∙◌, subst, length-take-le}
 use mathlib.Core.HLevel.{⊥_prop}
 use mathlib.Core.Logic.Iff
 use mathlib.Core.Logic.{∥∥₁_elim}
@@ -8,7 +8,7 @@ use Rattle.logic.specs.Witness.{Breach}
 use Rattle.logic.specs.Labels.{ListsKept, label}
 use Rattle.logic.specs.Masks.{mask}
 use Rattle.logic.specs.Standings as lists
-use Rattle.logic.specs.Counting.{Classes, More, Number, Exceeds}
+use Rattle.logic.specs.Counting.{More, Number, Exceeds}
 use Rattle.logic.proofs.Tables.{not_both}
 use Rattle.meaning.specs.Charts.{SameLabel, SameStanding, Areas, label_room, standing_room}
 use Rattle.meaning.specs.Whole.{LabelOf}
@@ -17,7 +17,7 @@ use Rattle.meaning.specs.declared.refusals.FillingFault.{FillingFault}
 use Rattle.meaning.specs.declared.refusals.FillingFault.TheVariants.{NoRule, LabelsExceed, StandingsExceed}
 use Rattle.meaning.proofs.OfBridges.{label_join, standing_join, standing_turn}
 use Rattle.meaning.proofs.OfWhole.{label_from, whole_charts_are_counted}
-use Rattle.charting.specs.Filled.{FilledOnce, Refused, FillingOnce, Refusing}
+use Rattle.charting.specs.Filled.{FilledOnce, Refused}
 use Rattle.charting.specs.Whole.{held}
 use Rattle.charting.specs.Answers.{FillingsAreRight, RefusalsAreRight}
 use Rattle.charting.proofs.OfWhole.{mask_label, same_labels, same_standings, whole}

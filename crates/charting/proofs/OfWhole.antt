@@ -13,7 +13,7 @@ use Rattle.logic.proofs.Labels.{label_is}
 use Rattle.logic.proofs.Masks.{masks_are_right}
 use Rattle.logic.proofs.Standings.{standings_are_right}
 use Rattle.meaning.specs.Charts.{SameLabel, WithinStanding, SameStanding}
-use Rattle.meaning.specs.Whole.{LabelOf, bit, Held, StandingOf, next, Whole, HoldsEmpty}
+use Rattle.meaning.specs.Whole.{LabelOf, bit, StandingOf, next, Whole, HoldsEmpty}
 use Rattle.meaning.proofs.OfWhole.{number_from, runs, standing_from, moved, holds_breach, breach_holds}
 use Rattle.pairs.specs.Verdicts.{Reads}
 use Rattle.charting.specs.Sets.{bit_of}

@@ -27,10 +27,10 @@ in_rooms br areas l s el es ls rest_ls st rest_st nx ll sl (Ok p) y =
         labels_fit = omega (arith, lf, ll, el);
         standings_fit = omega (arith, sf, sl, es);
         filled =
-          filled_front (formula_of br) (kept_of br) ls (ls ++ rest_ls) p.0 st (st ++ rest_st) p.1 nx
-          (λ i d h. get_or_append_left ls rest_ls d i (omega (arith, h, lf)))
-          (λ i d h. get_or_append_left st rest_st d i (omega (arith, h, sf)))
-          (simp length-append (omega arith)) (simp length-append (omega arith)) (some_labels x) x;
+            filled_front (formula_of br) (kept_of br) ls (ls ++ rest_ls) p.0 st (st ++ rest_st) p.1 nx
+            (λ i d h. get_or_append_left ls rest_ls d i (omega (arith, h, lf)))
+            (λ i d h. get_or_append_left st rest_st d i (omega (arith, h, sf)))
+            (simp length-append (omega arith)) (simp length-append (omega arith)) (some_labels x) x;
       };
       standings_once = y.standings_once;
     }

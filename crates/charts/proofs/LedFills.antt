@@ -1,5 +1,5 @@
 -- Fillings, in the words of histories. Assumes nothing.
-use Rattle.std.proofs.Common.{◌≡◌, ℕ, zero, suc, ◌<◌, ◌≤◌, List, [], ◌∷◌, length, get_or, Some, None, Ok, Err, Option, Result, sym, refl, ap, ◌∙◌, subst, arith, MatchResult}
+use Rattle.std.proofs.Common.{◌≡◌, ℕ, zero, suc, ◌<◌, ◌≤◌, List, [], ◌∷◌, length, get_or, Some, None, Ok, Err, Option, Result, sym, refl, ap, subst, arith, MatchResult}
 use mathlib.Core.HLevel.{⊥_prop}
 use mathlib.Core.Logic.{∥∥₁_elim, ∥∥₁_map}
 use Rattle.std.specs.List.{slice_get}
@@ -11,8 +11,8 @@ use Rattle.meaning.specs.Written.{IsBreachFormula}
 use Rattle.meaning.specs.Charts.{Areas}
 use Rattle.meaning.specs.Calls.{filling, History}
 use Rattle.meaning.specs.Histories.{at, names, rules, Ruled, ruled, filled_rule, watch}
-use Rattle.meaning.specs.Right.{FormulaOf, RightFilling, Fills as RightFills}
-use Rattle.meaning.specs.Whole.{Held, Mode, blank, ready, Whole, ChartIs}
+use Rattle.meaning.specs.Right.{RightFilling, Fills as RightFills}
+use Rattle.meaning.specs.Whole.{Held, Mode, ready, Whole, ChartIs}
 use Rattle.meaning.proofs.OfHistories.{at_same}
 use Rattle.rules.specs.declared.sheet.Sheet.{Sheet}
 use Rattle.rules.specs.Model.{Stands}
@@ -22,7 +22,6 @@ use Rattle.charting.specs.Filled.{FillingOnce, Refusing}
 use Rattle.charting.proofs.OfWhole.{whole}
 use Rattle.charting.proofs.OfAnswers.{fillings_are_right, refusals_are_right}
 use Rattle.charts.specs.declared.chart.Chart.{Chart}
-use Rattle.charts.specs.declared.state.State.TheVariants.{Blank, Ready}
 use Rattle.charts.specs.Fills.{areas, ReadyWith, Emptied, Left, Fills, FillsOnce}
 use Rattle.charts.specs.Led.{held_of, mode_of, ChartLed, Answered}
 

@@ -1,5 +1,5 @@
 -- Beginnings and scans, in the words of histories. Assumes nothing.
-use Rattle.std.proofs.Common.{◌≡◌, ℕ, ◌<◌, ◌≤◌, Bool, true, false, cond, ◌⊎◌, List, [], ◌∷◌, ◌++◌, get_or, Some, None, Ok, Err, Option, Result, sym, refl, ap, ◌∙◌, subst, inl, inr, true≢false, arith}
+use Rattle.std.proofs.Common.{◌≡◌, ℕ, Bool, true, false, cond, ◌⊎◌, List, [], ◌∷◌, ◌++◌, get_or, Some, None, Ok, Option, Result, sym, refl, ◌∙◌, subst, inl, inr, true≢false, arith}
 use mathlib.Core.HLevel.{⊥_prop}
 use mathlib.Core.Logic.{∥∥₁_elim, ∥∥₁_map, ∥∥₁_prop}
 use native.Mathlib.Nat.{ℕ_set}
@@ -10,9 +10,9 @@ use Rattle.meaning.specs.declared.answers.Scanned.{Scanned}
 use Rattle.meaning.specs.declared.refusals.BeginningFault.{BeginningFault}
 use Rattle.meaning.specs.declared.refusals.ScanningFault.{ScanningFault}
 use Rattle.meaning.specs.Calls.{beginning, scanning}
-use Rattle.meaning.specs.Histories.{Ruled, watch_after, one_more}
+use Rattle.meaning.specs.Histories.{Ruled, watch_after}
 use Rattle.meaning.specs.Right.{FormulaOf, RightBeginning, RightScanning}
-use Rattle.meaning.specs.Whole.{Held, Mode, blank, ready, broken, watching, StandingOf, Whole, Watches, ChartIs}
+use Rattle.meaning.specs.Whole.{Held, blank, broken, watching, StandingOf, Whole, Watches, ChartIs}
 use Rattle.meaning.proofs.OfHistories.{at_same}
 use Rattle.charting.specs.Filled.{after, breached}
 use Rattle.charting.specs.Whole.{held}

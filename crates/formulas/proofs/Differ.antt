@@ -1,8 +1,8 @@
 -- The kept nodes are as many as the kept formulas, where no two nodes are the same formula. Assumes nothing.
 use Rattle.std.proofs.Common.{◌≡◌, ℕ, ◌<◌, ◌≤◌, ◌⊎◌, List, ◌∷◌, length, get_or, sym, ap, ◌∙◌, subst, inl, inr, arith}
 use Rattle.std.proofs.lemmas.Bool.{cases_lt}
-use Rattle.logic.specs.Formula.{Formula, tru, same}
-use Rattle.logic.specs.Labels.{Kept, temporal, kept}
+use Rattle.logic.specs.Formula.{tru, same}
+use Rattle.logic.specs.Labels.{temporal, kept}
 use Rattle.logic.proofs.Kept.{kept_in, once_in, of_kept, kept_once, at_place, place_of, no_twice_apart}
 use Rattle.logic.proofs.Tables.{pigeonhole}
 use Rattle.formulas.specs.declared.node.Node.{Node}

@@ -1,8 +1,8 @@
 -- The kept nodes are the kept formulas of the root's formula. Assumes nothing.
-use Rattle.std.proofs.Common.{◌≡◌, ℕ, zero, suc, ◌+◌, ◌<◌, ◌≤◌, ◌⊎◌, List, [], ◌∷◌, map, length, get_or, sym, refl, ap, ◌∙◌, subst, inl, inr, ⊎_elim, arith}
-use mathlib.Core.Logic.{∥∥₁_elim, ∥∥₁_map, ∥∥₁_prop}
+use Rattle.std.proofs.Common.{◌≡◌, ℕ, zero, suc, ◌+◌, ◌<◌, ◌≤◌, List, [], ◌∷◌, map, length, get_or, sym, refl, ap, ◌∙◌, subst, inl, inr, ⊎_elim, arith}
+use mathlib.Core.Logic.{∥∥₁_map}
 use mathlib.Core.List.Memᴰ
-use mathlib.Core.List.{Mem, Memᴰ}
+use mathlib.Core.List.{Memᴰ}
 use Rattle.logic.specs.Formula.{Formula, tru, fls, lit, and, or, next, until, release, Sub}
 use Rattle.logic.specs.Formula as F
 use Rattle.logic.specs.Labels.{Kept, whole, a_next, an_until, a_release, an_operand, ListsKept}

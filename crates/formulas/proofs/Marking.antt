@@ -7,7 +7,7 @@ use Rattle.formulas.specs.declared.node.Node.TheVariants.{True, False, Signal, A
 use Rattle.formulas.specs.Nodes.{Placed, Topological}
 use Rattle.formulas.specs.Keeps.{Part, Under, top, down, KeepsAt, KeptNode, root, at, Keeps}
 use Rattle.formulas.specs.Marks.{mark_parts, mark_kept, Marking, Marked, Picked, Beyond, ManyKept}
-use Rattle.formulas.proofs.Kept.{part_below, keeps_part, under_below, kept_below}
+use Rattle.formulas.proofs.Kept.{part_below, kept_below}
 
 -- ---- one mark
 

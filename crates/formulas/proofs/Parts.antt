@@ -1,5 +1,5 @@
 -- The front of a list, as a part of a slice gives it. Assumes nothing.
-use Rattle.std.proofs.Common.{◌≡◌, ℕ, ◌-◌, ◌<◌, ◌≤◌, List, [], ◌∷◌, ◌++◌, length, get_or, take, sym, refl, ap, ◌∙◌, subst, arith, length-take, length-take-le, get_or-take}
+use Rattle.std.proofs.Common.{◌≡◌, ℕ, ◌-◌, ◌<◌, ◌≤◌, List, [], ◌∷◌, ◌++◌, length, get_or, take, sym, refl, ap, ◌∙◌, subst, arith, length-take-le, get_or-take}
 use native.Mathlib.Nat.{sub-zero}
 
 pub part_is : {A : Type 0} (n : ℕ) (xs : List A) → take (n - 0) xs ≡ take n xs

@@ -1,22 +1,21 @@
 -- One node, one bit. Assumes nothing.
-use Rattle.std.proofs.Common.{◌≡◌, ℕ, zero, suc, ◌+◌, ◌-◌, ◌*◌, ◌^◌, ◌<◌, ◌≤◌, Bool, true, false, cond, ◌&&◌, ◌||◌, ◌≢◌, ◌⊎◌, List, [], ◌∷◌, map, length, get_or, drop, set, sym, refl, ap, ◌∙◌, subst, ap₂, inl, inr, ⊎_elim, arith, length-drop, length-set, drop-cons, get_or-set_other, get_or-set_same, pow_mono}
+use Rattle.std.proofs.Common.{◌≡◌, ℕ, zero, suc, ◌+◌, ◌-◌, ◌*◌, ◌^◌, ◌<◌, ◌≤◌, Bool, true, false, cond, ◌&&◌, ◌||◌, List, [], ◌∷◌, map, length, get_or, drop, set, sym, refl, ap, ◌∙◌, subst, ap₂, inl, inr, ⊎_elim, arith, length-drop, length-set, drop-cons, get_or-set_other, get_or-set_same, pow_mono}
 use mathlib.Core.Logic.{∥∥₁_elim}
-use mathlib.Core.Bool.{beq}
 use native.Mathlib.Nat.{ℕ_set}
 use mir.Val.{bool_byte}
 use Rattle.std.proofs.lemmas.Bool.{cases_eq}
-use Rattle.logic.specs.Formula.{Formula, tru, fls, lit, and, or, next, until, release, on}
+use Rattle.logic.specs.Formula.{Formula, on}
 use Rattle.logic.specs.Sat.{sat}
 use Rattle.logic.specs.Labels.{label}
 use Rattle.logic.specs.Masks.{mask}
 use Rattle.logic.proofs.Masks.{masks_are_right}
 use Rattle.formulas.specs.declared.node.Node.{Node}
 use Rattle.formulas.specs.declared.node.Node.TheVariants.{True, False, Signal, And, Or, Next, Until, Release}
-use Rattle.formulas.specs.Nodes.{formula, Placed, Topological}
+use Rattle.formulas.specs.Nodes.{formula, Topological}
 use Rattle.formulas.specs.Keeps.{Part, Under, top, down, KeepsAt, KeptNode, root, at, Keeps, kept_formulas, Before}
 use Rattle.formulas.specs.Values.{value, Spread, Valued}
 use Rattle.formulas.proofs.Formulas.{made, formula_at}
-use Rattle.formulas.proofs.Kept.{part_below, keeps_part, under_below, kept_below}
+use Rattle.formulas.proofs.Kept.{part_below}
 
 -- the value of a node is whether the letter and the word are a breach of its formula
 module _ (G : ℕ → Formula) (s : ℕ) (w : List ℕ) (was holds : List Bool) where

@@ -1,5 +1,5 @@
 -- The nodes under a root, and those of them that are kept. Assumes nothing.
-use Rattle.std.specs.Prelude.{◌≡◌, ℕ, ◌+◌, ◌<◌, ◌≤◌, Bool, true, false, ◌⊎◌, List, [], ◌∷◌, map, length, slice_index, slice_index_or}
+use Rattle.std.specs.Prelude.{◌≡◌, ℕ, ◌<◌, ◌⊎◌, List, ◌∷◌, map, length, slice_index, slice_index_or}
 use Rattle.logic.specs.Formula.{Formula}
 use Rattle.logic.specs.Labels.{label}
 use Rattle.logic.specs.Masks.{mask}

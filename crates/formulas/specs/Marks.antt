@@ -2,7 +2,7 @@
 use Rattle.std.specs.Prelude.{◌≡◌, ℕ, ◌<◌, ◌≤◌, Bool, true, false, List, length, get_or, ◌≢◌, slice_index, slice_index_or, slice_set}
 use Rattle.formulas.specs.declared.node.Node.{Node}
 use Rattle.formulas.specs.declared.node.Node.TheVariants.{True, False, Signal, And, Or, Next, Until, Release}
-use Rattle.formulas.specs.Nodes.{Topological, formula}
+use Rattle.formulas.specs.Nodes.{formula}
 use Rattle.formulas.specs.Keeps.{Part, Under, KeepsAt, KeptNode}
 
 -- the parts of a node marked

@@ -1,12 +1,12 @@
-use Rattle.std.proofs.Common.{◌≡◌, ℕ, zero, suc, ◌+◌, ◌-◌, ◌*◌, ◌<◌, ◌≤◌, min, Bool, true, false, cond, not, ◌&&◌, eqb, leb, ◌⊎◌, List, [], ◌∷◌, ◌++◌, length, get_or, take, drop, Some, None, codes, Option, sym, refl, ap, ◌∙◌, subst, inl, inr, add-one, arith, length-drop, length-take, drop-cons, rules, eq-eqb, ne_eqb, eqb-true}
+use Rattle.std.proofs.Common.{◌≡◌, ℕ, zero, suc, ◌+◌, ◌-◌, ◌*◌, ◌<◌, ◌≤◌, min, Bool, true, false, cond, eqb, ◌⊎◌, List, [], ◌∷◌, ◌++◌, length, get_or, take, drop, Some, None, codes, Option, sym, refl, ap, ◌∙◌, subst, inl, inr, add-one, arith, length-drop, length-take, drop-cons, eq-eqb, ne_eqb}
 use native.Mathlib.Nat.{sub-zero}
 use Rattle.std.proofs.lemmas.List.{drop_all}
-use Rattle.std.proofs.lemmas.Slice.Eq.{HasBytesAt, bytes_eq-Decides}
+use Rattle.std.proofs.lemmas.Slice.Eq.{HasBytesAt}
 use Rattle.std.proofs.lemmas.Slice.{between_to_end}
 use Rattle.std.proofs.lemmas.Bool.Decides.{nat_tests, leb_tells, eqb_tells}
 use Rattle.std.specs.Str.{bytes_eq}
-use Rattle.meaning.specs.Bytes.{Text, parted, before_first, after, all, digit, value, plain, number}
-use Rattle.meaning.specs.Files.{Entry, state, mapped, or_else, with_number, entry, of_fields, state_fields, step_fields, signals, rule}
+use Rattle.meaning.specs.Bytes.{Text, parted, before_first, after, all, digit, value, number}
+use Rattle.meaning.specs.Files.{Entry, state, mapped, or_else, with_number, entry, of_fields, signals, rule}
 use Rattle.lines.specs.Fields.{cap, figure, capped}
 
 -- ---- what a slice pattern of the bytes p and a rest leaves

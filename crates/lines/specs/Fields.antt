@@ -1,5 +1,5 @@
 -- Parts of a text at a byte, and entries with their numbers cut at 65,536. Assumes nothing.
-use Rattle.std.specs.Prelude.{◌≡◌, ℕ, ◌<◌, min, cond, List, [], ◌∷◌, length, Some, None, Option, ◌≢◌}
+use Rattle.std.specs.Prelude.{◌≡◌, ℕ, ◌<◌, min, cond, [], ◌∷◌, length, Some, None, Option, ◌≢◌}
 use Rattle.std.specs.Borrow.{Bor}
 use Rattle.meaning.specs.Bytes.{Text, parted, all, digit, value}
 use Rattle.meaning.specs.Files.{Entry as LineEntry, signals, rule, state, step}

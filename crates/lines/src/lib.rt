@@ -1,5 +1,7 @@
 // Lines of a file: where they end, of which kind they are, their fields and their numbers.
 // Loading (`loading`) stands on it.
+#![tactic(auto)]
+
 ghost use Rattle.std.specs.Prelude.{◌≡◌, ℕ, ◌+◌, ◌-◌, ◌*◌, ◌<◌, ◌≤◌, List, [], ◌∷◌, ◌++◌, length, Some, None, codes};
 ghost use Rattle.meaning.specs.Bytes.{after, number, parted};
 ghost use Rattle.meaning.specs.Files.{mapped, entry, of_fields};

@@ -1,12 +1,12 @@
 -- The lines of a file one after another, and what is left of it.
-use Rattle.std.proofs.Common.{◌≡◌, ℕ, ◌+◌, ◌<◌, ◌≤◌, Bool, true, false, List, [], ◌∷◌, length, IfOk, Some, None, Ok, Err, Result, sym, refl, ap, ◌∙◌, subst, inl, inr, arith}
+use Rattle.std.proofs.Common.{◌≡◌, ℕ, ◌+◌, ◌<◌, ◌≤◌, Bool, true, false, List, [], ◌∷◌, length, IfOk, Ok, Err, Result, sym, refl, ap, ◌∙◌, subst, inl, inr, arith}
 use Rattle.meaning.specs.declared.refusals.LineFault.{LineFault}
 use Rattle.meaning.specs.declared.refusals.LineFault.TheVariants.{Table}
 use Rattle.meaning.specs.declared.refusals.TableFault.TheVariants.{Form}
 use Rattle.meaning.specs.declared.refusals.FileFault.{FileFault}
 use Rattle.meaning.specs.Bytes.{Text, parted}
-use Rattle.meaning.specs.Kinds.{Lines, no_lines}
-use Rattle.meaning.specs.Files.{Line, ended, cut, Rooms, Content, nothing, content, content_from, formed, added_if, lines, lines_of, lines_in, SaidOfLine, AllGood, FirstBad, RightLoading}
+use Rattle.meaning.specs.Kinds.{Lines}
+use Rattle.meaning.specs.Files.{Line, ended, cut, Rooms, Content, nothing, content, content_from, formed, added_if, lines, lines_of, lines_in, AllGood, FirstBad, RightLoading}
 use Rattle.rules.specs.declared.sheet.Sheet.{Sheet}
 use Rattle.rules.specs.Led.{SheetIs}
 use Rattle.lines.proofs.OfFields.{parted_some}

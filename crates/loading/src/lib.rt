@@ -1,4 +1,6 @@
 // Loads a file into a sheet and a table: its names, rules, states and steps; or says which line is refused, by which layer and why.
 // The report (`report`) stands on it.
+#![tactic(auto)]
+
 pub mod load;
 mod taking;

@@ -1,17 +1,17 @@
 -- Words that agree on the signals that a formula names do the same with it. Assumes nothing.
-use Rattle.std.proofs.Common.{◌≡◌, ℕ, Bool, true, false, ◌&&◌, ◌||◌, List, [], ◌∷◌, ◌++◌, sym, refl, ap, ◌∙◌, ap₂}
+use Rattle.std.proofs.Common.{◌≡◌, ℕ, Bool, ◌&&◌, ◌||◌, List, [], ◌∷◌, ◌++◌, sym, refl, ap, ◌∙◌, ap₂}
 use mathlib.Core.Logic.{∥∥₁_elim, ∥∥₁_map}
 use mathlib.Core.Bool.{beq, Bool-set}
 use Rattle.logic.specs.Formula.{Formula, tru, fls, lit, and, or, next, until, release, Sub}
 use Rattle.logic.specs.Formula as F
 use Rattle.logic.specs.Witness.{Breach}
 use Rattle.logic.specs.Sat.{sat}
-use Rattle.logic.specs.Labels.{Kept, whole, a_next, an_until, a_release, an_operand, ListsKept}
-use Rattle.logic.specs.Standings.{Standing, SameLabel}
+use Rattle.logic.specs.Labels.{Kept, whole, a_next, an_until, a_release, an_operand}
+use Rattle.logic.specs.Standings.{Standing}
 use Rattle.logic.specs.Signals.{LettersAgree, Agree}
 use Rattle.logic.specs.Statements.{OnlyNamedSignalsCount}
 use Rattle.logic.proofs.Subs.{sub_trans}
-use Rattle.logic.proofs.Sat.{breach_is_sat, sat_nil}
+use Rattle.logic.proofs.Sat.{breach_is_sat}
 use Rattle.logic.proofs.Labels.{map_same}
 
 -- what agrees for f agrees for a subformula

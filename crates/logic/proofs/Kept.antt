@@ -1,8 +1,8 @@
 -- The computed list of kept formulas holds the kept formulas. Assumes nothing.
-use Rattle.std.proofs.Common.{◌≡◌, ℕ, zero, suc, ◌<◌, ◌⊎◌, List, [], ◌∷◌, ◌++◌, length, get_or, sym, refl, ◌∙◌, subst, inl, inr, ⊎_elim, arith}
+use Rattle.std.proofs.Common.{◌≡◌, ℕ, zero, suc, ◌<◌, ◌⊎◌, List, [], ◌∷◌, length, get_or, sym, refl, ◌∙◌, subst, inl, inr, ⊎_elim, arith}
 use mathlib.Core.Logic.{∥∥₁_map}
 use mathlib.Core.List.Memᴰ
-use mathlib.Core.List.{Mem, Memᴰ}
+use mathlib.Core.List.{Memᴰ}
 use Rattle.logic.specs.Formula.{Formula, tru, fls, lit, and, or, next, until, release, Sub, same}
 use Rattle.logic.specs.Formula as F
 use Rattle.logic.specs.Labels.{Kept, whole, a_next, an_until, a_release, an_operand, add_once, once, temporal, kept, NoTwice}

@@ -1,5 +1,5 @@
 -- Subformulas: transitive, and decided. Assumes nothing.
-use Rattle.std.proofs.Common.{◌≡◌, ◌⊎◌, sym, subst, inl, inr}
+use Rattle.std.proofs.Common.{◌≡◌, ◌⊎◌, subst, inl, inr}
 use Rattle.logic.specs.Formula.{Formula, tru, fls, lit, and, or, next, until, release, same, Sub}
 use Rattle.logic.specs.Formula.{itself, and_left, and_right, or_left, or_right, next_of, until_left, until_right, release_left, release_right}
 

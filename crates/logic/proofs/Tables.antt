@@ -1,10 +1,10 @@
 -- Any table that says yes to exactly the breaches has an entry for each standing. Assumes nothing.
-use Rattle.std.proofs.Common.{◌≡◌, ℕ, zero, suc, ◌<◌, ◌≤◌, Bool, true, false, cond, eqb, List, [], ◌∷◌, ◌++◌, sym, refl, ap, ◌∙◌, subst, arith}
+use Rattle.std.proofs.Common.{◌≡◌, ℕ, zero, suc, ◌<◌, ◌≤◌, Bool, cond, eqb, List, [], ◌∷◌, ◌++◌, sym, ap, ◌∙◌, subst, arith}
 use mathlib.Core.Logic.Iff
 use mathlib.Core.Logic.{∥∥₁_map}
 use mathlib.Core.List.{foldl, foldl-append}
 use native.Mathlib.Decide.{dec_lt}
-use Rattle.logic.specs.Formula.{Formula, Letter, Letters}
+use Rattle.logic.specs.Formula.{Formula, Letters}
 use Rattle.logic.specs.Witness.{Breach}
 use Rattle.logic.specs.Counting.{Classes, More}
 use Rattle.logic.specs.Standings.{BreachOfAny, Standing, SameLabel, SameStanding, Table}

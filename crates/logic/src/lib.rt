@@ -1,5 +1,7 @@
 // The logic of rules: formulas, words, witnesses and breaches, labels, standings and how they are counted, in specs/; here its theorems,
 // each on the contract of a small function, so that the check asks for its proof. Everything else stands on it.
+#![tactic(auto)]
+
 ghost use Rattle.logic.specs.Statements.{BreachIsSat, EmptyHasNone, EmptyIsNoBreach, BreachStays, OnlyNamedSignalsCount};
 ghost use Rattle.logic.specs.Statements.{LabelIs, KeptClosed, KeptOfClosed, LabelBack};
 ghost use Rattle.logic.specs.Statements.{KeptListed, KeptOnce};

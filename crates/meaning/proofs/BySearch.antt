@@ -1,9 +1,9 @@
 -- Searches over the sample file's table: the first rule is shown, the second is clear, and under the stuck layer it is shown. Assumes nothing.
-use Rattle.std.proofs.Common.{◌≡◌, ℕ, zero, suc, ◌+◌, ◌-◌, ◌<◌, ◌≤◌, Bool, true, false, ◌⊎◌, List, [], ◌∷◌, ◌++◌, map, length, get_or, take, drop, Ok, Err, sym, refl, ap, ◌∙◌, subst, inl, inr, ⊎_elim, append_assoc, append-nil, arith, length-drop}
+use Rattle.std.proofs.Common.{◌≡◌, ℕ, zero, suc, ◌<◌, ◌≤◌, Bool, false, ◌⊎◌, List, [], ◌∷◌, ◌++◌, map, length, get_or, drop, Ok, Err, sym, refl, ap, ◌∙◌, subst, inl, inr, ⊎_elim, append_assoc, append-nil, arith, length-drop}
 use mathlib.Core.Logic.{∥∥₁_elim}
 use mathlib.Core.HLevel.{⊥_prop}
 use mathlib.Core.Bool.{false≢true}
-use mathlib.Core.List.{foldl, foldl-append, cons≢nil}
+use mathlib.Core.List.{foldl-append, cons≢nil}
 use Rattle.meaning.specs.declared.refusals.SearchingFault.TheVariants.{PairsExceed}
 use Rattle.meaning.specs.declared.answers.Verdict.TheVariants.{Shown, Clear}
 use Rattle.logic.specs.Formula.{Formula, Letter, Letters, on, same}

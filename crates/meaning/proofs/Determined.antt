@@ -1,15 +1,13 @@
 -- At most one answer is right, up to which shortest walk is shown. Assumes nothing.
-use Rattle.std.proofs.Common.{◌≡◌, ℕ, ◌+◌, ◌<◌, ◌≤◌, Bool, true, false, cond, eqb, ltb, leb, ◌⊎◌, List, [], ◌∷◌, ◌++◌, length, take, drop, Some, None, Ok, Err, Option, Result, sym, refl, ap, ◌∙◌, subst, ap₂, inl, inr, ⊎_elim, arith, length-take}
+use Rattle.std.proofs.Common.{◌≡◌, ℕ, ◌+◌, ◌≤◌, cond, eqb, List, [], ◌∷◌, length, take, drop, Some, None, Ok, Err, Option, Result, sym, refl, ap, ◌∙◌, subst, ap₂, ⊎_elim, arith, length-take}
 use mathlib.Core.Logic.{∥∥₁_elim}
 use mathlib.Core.HLevel.{⊥_prop, hedberg}
 use mathlib.Core.Bool.{false≢true}
 use mathlib.Core.List.{is_set}
 use native.Mathlib.Nat.{ℕ_set}
 use native.Mathlib.Decide.{ℕ_discrete}
-use Rattle.std.proofs.lemmas.Bool.{lt-ltb, le-ltb, le-leb, lt-leb}
 use Rattle.meaning.specs.declared.refusals.NamesFault.{NamesFault}
 use Rattle.meaning.specs.declared.refusals.NamesFault.TheVariants.{Unfit}
-use Rattle.meaning.specs.declared.refusals.RuleFault.{RuleFault}
 use Rattle.meaning.specs.declared.refusals.RuleFault.TheVariants.{WrongWord, WordWanted, BytesFollow, TooDeep}
 use Rattle.meaning.specs.declared.refusals.SheetFault.{SheetFault}
 use Rattle.meaning.specs.declared.refusals.SheetFault.TheVariants.{Rule, OverKept, SheetFull}
@@ -29,19 +27,16 @@ use Rattle.meaning.specs.declared.answers.Scanned.TheVariants.{GoingOn, Broken}
 use Rattle.meaning.specs.declared.answers.Verdict.{Verdict}
 use Rattle.meaning.specs.declared.answers.Verdict.TheVariants.{Shown, Clear}
 use Rattle.logic.specs.Formula.{Formula}
-use Rattle.logic.specs.Witness.{Breach}
-use Rattle.meaning.specs.Bytes.{Text, is_empty}
-use Rattle.meaning.specs.Names.{fit}
-use Rattle.meaning.specs.Charts.{Areas, SameStanding}
+use Rattle.meaning.specs.Bytes.{Text}
+use Rattle.meaning.specs.Charts.{Areas}
 use Rattle.meaning.specs.Machines.{Meaning}
-use Rattle.meaning.specs.Walks.{Walk, SamePair, Pairs, word, front, Showable, Clearable, ShorterFit}
-use Rattle.meaning.specs.Faults.{text_fault}
+use Rattle.meaning.specs.Walks.{Walk, SamePair, Pairs, ShorterFit}
 use Rattle.meaning.specs.Entering.{RightEntering}
 use Rattle.meaning.specs.Files.{Line, Entry, signals, rule, state, step, Content, Rooms, formed, added_if, lines, nothing, said_of, SaidOfEntry, SaidOfLine, AllGood, FirstBad, RightLoading}
-use Rattle.meaning.specs.Calls.{Call, opening, entering, loading, filling, beginning, scanning, searching, Answer, History}
+use Rattle.meaning.specs.Calls.{opening, entering, loading, filling, beginning, scanning, searching}
 use Rattle.meaning.specs.Histories.{names, rules, Ruled, rule_at, filled_rule, watch, meaning_of}
-use Rattle.meaning.specs.Right.{FormulaOf, RightOpening, Fills, RightFilling, RightBeginning, Scans, RightScanning, Searchable, Searches, RightSearching, Right, AllRight}
-use Rattle.meaning.specs.Claims.{AlikeSearched, Alike, AnswersAreDetermined}
+use Rattle.meaning.specs.Right.{FormulaOf, RightOpening, Fills, RightFilling, RightBeginning, Scans, RightScanning, Searches, RightSearching}
+use Rattle.meaning.specs.Claims.{AlikeSearched, AnswersAreDetermined}
 use Rattle.meaning.proofs.OfNames.{one_formula, GoodRule, rule_good, filled_good}
 use Rattle.meaning.proofs.OfBridges.{one_number, counts_are_unique, standing_turn, standing_join}
 

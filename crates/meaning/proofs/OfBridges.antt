@@ -1,15 +1,15 @@
 -- The labels, standings and counts are those of the theory's lists. Assumes nothing.
-use Rattle.std.proofs.Common.{◌≡◌, ℕ, ◌<◌, ◌≤◌, Bool, true, false, ◌↔◌, List, [], ◌∷◌, ◌++◌, map, sym, refl, ap, ◌∙◌, ap₂, ⊎_elim, arith}
+use Rattle.std.proofs.Common.{◌≡◌, ℕ, Bool, true, false, ◌↔◌, List, [], ◌∷◌, map, sym, refl, ap, ◌∙◌, ap₂, ⊎_elim}
 use mathlib.Core.Logic.Iff
 use mathlib.Core.Logic.{∥∥₁_elim, ∥∥₁_map}
 use mathlib.Core.Bool.{Bool-set}
 use mathlib.Core.List.Memᴰ
-use mathlib.Core.List.{Mem, Memᴰ, head-eq_of_cons-eq, tail-eq_of_cons-eq}
+use mathlib.Core.List.{Memᴰ, head-eq_of_cons-eq, tail-eq_of_cons-eq}
 use native.Mathlib.Nat.{ℕ_set}
 use Rattle.logic.specs.Formula.{Formula, Letters}
 use Rattle.logic.specs.Witness.{Breach}
 use Rattle.logic.specs.Sat.{sat}
-use Rattle.logic.specs.Labels.{Kept, kept, label}
+use Rattle.logic.specs.Labels.{kept, label}
 use Rattle.logic.specs.Standings as lists
 use Rattle.logic.specs.Counting.{Classes, Number}
 use Rattle.logic.proofs.Sat.{breach_is_sat}

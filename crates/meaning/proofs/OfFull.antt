@@ -1,5 +1,5 @@
 -- A sheet is full, and a rule over kept, exactly when lists say so. Assumes nothing.
-use Rattle.std.proofs.Common.{◌≡◌, ℕ, zero, suc, ◌<◌, ◌≤◌, ◌⊎◌, ◌↔◌, List, [], ◌∷◌, ◌++◌, map, length, get_or, sym, refl, ap, ◌∙◌, subst, inl, inr, ⊎_elim, arith}
+use Rattle.std.proofs.Common.{◌≡◌, ℕ, suc, ◌<◌, ◌↔◌, List, [], ◌∷◌, map, length, get_or, sym, refl, ap, ◌∙◌, subst, inl, inr, ⊎_elim, arith}
 use mathlib.Core.Logic.{∥∥₁_elim, ∥∥₁_map, ∥∥₁_prop}
 use mathlib.Core.HLevel.{⊥_prop}
 use mathlib.Core.List.Memᴰ
@@ -9,12 +9,11 @@ use Rattle.logic.specs.Formula.{Formula, tru, fls, lit, and, or, next, until, re
 use Rattle.logic.specs.Formula as F
 use Rattle.logic.specs.Rule.{Rule, negated}
 use Rattle.logic.specs.Labels.{NoTwice, once, kept}
-use Rattle.logic.specs.Counting.{Classes, More, Exceeds}
-use Rattle.logic.proofs.Subs.{split}
+use Rattle.logic.specs.Counting.{Classes, Exceeds}
 use Rattle.logic.proofs.Kept.{of_once, once_in, once_once, kept_listed, kept_once, at_place, no_twice_apart}
 use Rattle.logic.proofs.Tables.{not_both}
 use Rattle.meaning.specs.Bytes.{Text}
-use Rattle.meaning.specs.Written.{written, Named, depth, Means, IsBreachFormula}
+use Rattle.meaning.specs.Written.{written, Means}
 use Rattle.meaning.specs.Sheets.{Equal, Used, KeptOf}
 use Rattle.meaning.specs.Reading.{GoodNames}
 use Rattle.meaning.specs.Full.{parts, all_parts, different_parts, CanBeMeant, FullSheetsByLists, OverKeptByLists}

@@ -1,23 +1,22 @@
 -- The kinds of machines keep the laws. Assumes nothing.
-use Rattle.std.proofs.Common.{◌≡◌, ℕ, zero, suc, ◌+◌, ◌-◌, ◌*◌, ◌^◌, ◌<◌, ◌≤◌, min, Bool, true, false, cond, ◌&&◌, eqb, ltb, leb, ◌⊎◌, List, [], ◌∷◌, ◌++◌, map, length, get_or, Some, None, Ok, Err, filter, Option, sym, refl, ap, ◌∙◌, subst, inl, inr, ⊎_elim, arith, length-append}
+use Rattle.std.proofs.Common.{◌≡◌, ℕ, zero, suc, ◌+◌, ◌-◌, ◌*◌, ◌^◌, ◌<◌, ◌≤◌, Bool, true, false, cond, eqb, ltb, leb, List, [], ◌∷◌, ◌++◌, map, length, get_or, Some, None, Ok, Err, filter, Option, refl, ⊎_elim, arith, length-append}
 use lib.Bits.{bit_or, or_lt}
 use lib.Pow.{pow-lt}
 use lib.ListN.{length-map}
 use Rattle.std.proofs.lemmas.Bool.{and_parts, ltb-true, ltb-false, leb-true}
 use Rattle.std.proofs.ByRecursion.{All-weaker}
 use Rattle.std.specs.List.{AllByRecursion}
-use Rattle.meaning.specs.declared.refusals.LineFault.{LineFault}
 use Rattle.meaning.specs.declared.refusals.LineFault.TheVariants.{Table}
 use Rattle.meaning.specs.declared.refusals.TableFault.TheVariants.{NoRoom}
-use Rattle.logic.specs.Formula.{Letter, Letters}
-use Rattle.meaning.specs.Bytes.{Text, is_empty}
+use Rattle.logic.specs.Formula.{Letters}
+use Rattle.meaning.specs.Bytes.{is_empty}
 use Rattle.meaning.specs.Machines.{Meaning, Lawful, Among, Once}
-use Rattle.meaning.specs.Kinds.{State, Step, Lines, no_lines, starts_from, steps_from, table_meaning, round_meaning, no_machine, doubled, stuck_fitting, stuck_fits, stuck_meaning}
-use Rattle.meaning.specs.Files.{Line, ended, cut, Entry, signals, rule, state, step, entry, Content, nothing, in_place, placed, formed, added_if, content_from, content, lines, lines_in, last_from, Rooms, state_room, step_room, SaidOfLine, AllGood}
-use Rattle.meaning.specs.Calls.{Call, opening, entering, loading, filling, beginning, scanning, searching, Answer, History, Machine, table, round, stuck, other}
+use Rattle.meaning.specs.Kinds.{State, Step, Lines, no_lines, starts_from, steps_from, table_meaning, no_machine, doubled, stuck_fitting, stuck_fits}
+use Rattle.meaning.specs.Files.{Line, ended, cut, Entry, signals, rule, state, step, entry, Content, nothing, in_place, placed, formed, added_if, content_from, content, lines, lines_in, last_from, Rooms, step_room, SaidOfLine, AllGood}
+use Rattle.meaning.specs.Calls.{Call, opening, entering, loading, filling, beginning, scanning, searching, Answer, History, table, round, stuck, other}
 use Rattle.meaning.specs.Histories.{at, lines_after, table_lines, meaning_of}
 use Rattle.meaning.specs.Right.{Right, AllRight}
-use Rattle.meaning.specs.Laws.{RoundsAreLawful, StuckLayersAreLawful, LoadedTablesAreLawful, OfBytes, MachinesAreLawful}
+use Rattle.meaning.specs.Laws.{RoundsAreLawful, StuckLayersAreLawful, LoadedTablesAreLawful, MachinesAreLawful}
 
 by_test : (P : Bool → Type 0) (b : Bool) → (b ≡ true → P true) → (b ≡ false → P false) → P b
 by_test P true f g = f refl

@@ -1,5 +1,5 @@
 -- The limits hold from both sides. Assumes nothing.
-use Rattle.std.proofs.Common.{◌≡◌, ℕ, zero, suc, ◌+◌, ◌<◌, ◌≤◌, min, cond, ltb, ◌⊎◌, List, [], ◌∷◌, map, length, replicate, Some, None, Ok, Err, sym, refl, ap, ◌∙◌, inl, inr, ⊎_elim, arith}
+use Rattle.std.proofs.Common.{◌≡◌, ℕ, zero, suc, ◌<◌, ◌≤◌, min, cond, ltb, List, [], ◌∷◌, map, length, replicate, Some, None, Err, sym, refl, inl, inr, ⊎_elim, arith}
 use Rattle.std.proofs.lemmas.Bool.{cond-true, cond-false, lt-ltb, le-ltb}
 use Rattle.meaning.specs.declared.refusals.LineFault.TheVariants.{Table}
 use Rattle.meaning.specs.declared.refusals.TableFault.TheVariants.{Form, NoRoom}
@@ -7,7 +7,7 @@ use Rattle.logic.specs.Formula.{same}
 use Rattle.logic.specs.Rule.{Rule, rtrue, negated}
 use Rattle.logic.specs.Labels.{kept}
 use Rattle.meaning.specs.Bytes.{Text}
-use Rattle.meaning.specs.Written.{written, Named, Means}
+use Rattle.meaning.specs.Written.{written, Means}
 use Rattle.meaning.specs.Sheets.{SheetIsFull, IsOverKept}
 use Rattle.meaning.specs.Reading.{GoodNames}
 use Rattle.meaning.specs.Full.{different_parts, CanBeMeant}

@@ -1,23 +1,22 @@
 -- After right answers every sheet has good names, and every chart's rule stood under good names: so a rule has one breach formula. Assumes nothing.
-use Rattle.std.proofs.Common.{◌≡◌, ℕ, Bool, true, false, cond, ◌&&◌, eqb, leb, List, [], ◌∷◌, length, Some, None, Ok, Err, Option, sym, refl, ap, ◌∙◌, subst, arith}
+use Rattle.std.proofs.Common.{◌≡◌, ℕ, Bool, true, false, cond, ◌&&◌, eqb, leb, List, [], ◌∷◌, length, Some, None, Ok, Err, Option, sym, refl, ap, ◌∙◌, arith}
 use mathlib.Core.Logic.{∥∥₁_elim}
 use mathlib.Core.HLevel.{hedberg}
 use Rattle.std.proofs.lemmas.Bool.{and_parts}
 use Rattle.std.specs.List.{slice_get}
 use Rattle.meaning.specs.declared.refusals.FillingFault.TheVariants.{NoRule, LabelsExceed, StandingsExceed}
 use Rattle.meaning.specs.declared.refusals.NamesFault.TheVariants.{Unfit}
-use Rattle.meaning.specs.declared.refusals.LineFault.{LineFault}
 use Rattle.meaning.specs.declared.refusals.LineFault.TheVariants.{Names}
 use Rattle.logic.specs.Formula.{Formula, same}
 use Rattle.logic.specs.Rule.{negated}
-use Rattle.meaning.specs.Bytes.{Text, all, once}
-use Rattle.meaning.specs.Names.{is_name, fit_names, fit, names_of}
+use Rattle.meaning.specs.Bytes.{Text, all}
+use Rattle.meaning.specs.Names.{is_name, fit, names_of}
 use Rattle.meaning.specs.Written.{IsBreachFormula}
 use Rattle.meaning.specs.Reading.{GoodNames}
 use Rattle.meaning.specs.Files.{Line, Entry, signals, rule, state, step, Content, Rooms, formed, added_if, content_from, content, lines, nothing, SaidOfLine, AllGood}
 use Rattle.meaning.specs.Calls.{Call, opening, entering, loading, filling, beginning, scanning, searching, Answer, History}
 use Rattle.meaning.specs.Histories.{at, names_after, names, Ruled, ruled, rule_at, filled_after, filled_rule}
-use Rattle.meaning.specs.Right.{FormulaOf, Right, AllRight}
+use Rattle.meaning.specs.Right.{Right, AllRight}
 use Rattle.meaning.proofs.OfReading.{texts_mean_one_rule}
 
 -- ---- one breach formula

@@ -1,5 +1,5 @@
 -- A text has no fault exactly when it means a rule, and it means one rule. Assumes nothing.
-use Rattle.std.proofs.Common.{◌≡◌, ℕ, zero, suc, ◌+◌, ◌-◌, ◌<◌, ◌≤◌, max, Bool, true, false, cond, not as non, ◌&&◌, ◌||◌, eqb, leb, ◌⊎◌, List, [], ◌∷◌, ◌++◌, length, get_or, Some, None, codes, Option, sym, refl, ap, ◌∙◌, subst, ap₂, inl, inr, ⊎_elim, append_assoc, append-nil, arith, length-append}
+use Rattle.std.proofs.Common.{◌≡◌, ℕ, zero, suc, ◌+◌, ◌-◌, ◌<◌, ◌≤◌, max, Bool, true, false, cond, not as non, ◌&&◌, ◌||◌, leb, ◌⊎◌, List, [], ◌∷◌, ◌++◌, length, get_or, Some, None, codes, Option, sym, refl, ap, ◌∙◌, subst, ap₂, inl, inr, ⊎_elim, append_assoc, append-nil, arith, length-append}
 use mathlib.Core.Logic.{∥∥₁_elim}
 use mathlib.Core.HLevel.{⊥_prop}
 use mathlib.Core.Bool.{false≢true}
@@ -7,9 +7,9 @@ use mathlib.Core.List.{head-eq_of_cons-eq}
 use Rattle.std.proofs.lemmas.Bool.{and_parts, cond-true, cond-false, leb-true, leb-false, lt-leb, ne_eqb}
 use Rattle.std.specs.Str.{bytes_eq}
 use Rattle.meaning.specs.declared.refusals.RuleFault.{RuleFault}
-use Rattle.meaning.specs.declared.refusals.RuleFault.TheVariants.{WrongWord, WordWanted, BytesFollow, TooDeep}
+use Rattle.meaning.specs.declared.refusals.RuleFault.TheVariants.{TooDeep}
 use Rattle.logic.specs.Rule.{Rule, rtrue, rfalse, name, not, rnext, finally, globally, both, either, implies, runtil, rrelease}
-use Rattle.meaning.specs.Bytes.{Text, is_empty, all, one_of, once, parted}
+use Rattle.meaning.specs.Bytes.{Text, all, one_of, once, parted}
 use Rattle.meaning.specs.Names.{lowercase, is_name}
 use Rattle.meaning.specs.Written.{one, two, written, Named, depth, Means}
 use Rattle.meaning.specs.Faults.{operands, at_word, fault_from, text_fault}

@@ -1,8 +1,6 @@
 -- Worked examples, each by computing. Assumes nothing.
 use Rattle.std.specs.Prelude.{◌≡◌, ℕ, zero, suc, ◌≤◌, true, false, ◌≢◌, List, [], ◌∷◌, ◌++◌, length, Some, None, Ok, Err, codes, Option}
 use Rattle.meaning.specs.declared.refusals.RuleFault.TheVariants.{WrongWord, WordWanted, BytesFollow, TooDeep}
-use Rattle.meaning.specs.declared.refusals.LineFault.TheVariants.{Table}
-use Rattle.meaning.specs.declared.refusals.TableFault.TheVariants.{Form}
 use Rattle.meaning.specs.declared.refusals.SheetFault.TheVariants.{SheetFull}
 use Rattle.meaning.specs.declared.refusals.FittingFault.TheVariants.{TooLarge}
 use Rattle.meaning.specs.declared.refusals.SearchingFault.TheVariants.{PairsExceed}
@@ -14,11 +12,11 @@ use Rattle.meaning.specs.Entering.{RightEntering}
 use Rattle.meaning.specs.Machines.{Meaning}
 use Rattle.meaning.specs.Right.{Searches}
 use Rattle.meaning.specs.Bytes.{Text, number}
-use Rattle.meaning.specs.Names.{fit, names_of}
+use Rattle.meaning.specs.Names.{fit}
 use Rattle.meaning.specs.Written.{written, Means}
 use Rattle.meaning.specs.Faults.{text_fault}
-use Rattle.meaning.specs.Kinds.{State, Step, table_meaning, stuck_meaning, fitting}
-use Rattle.meaning.specs.Files.{Line, ended, cut, lines, content, lines_in, entry, formed, nothing, in_place, Rooms}
+use Rattle.meaning.specs.Kinds.{table_meaning, stuck_meaning, fitting}
+use Rattle.meaning.specs.Files.{ended, cut, lines, content, lines_in, entry}
 
 abbrev pub two_names : List Text
 two_names = codes "stop" ∷ (codes "full" ∷ [])

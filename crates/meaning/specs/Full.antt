@@ -1,5 +1,5 @@
 -- How full a sheet gets, and how much is kept of a rule, by lists that compute. Assumes nothing.
-use Rattle.std.specs.Prelude.{ℕ, ◌<◌, ◌≤◌, ◌⊎◌, ◌↔◌, List, [], ◌∷◌, ◌++◌, map, length}
+use Rattle.std.specs.Prelude.{◌<◌, ◌≤◌, ◌⊎◌, ◌↔◌, List, [], ◌∷◌, ◌++◌, map, length}
 use Rattle.logic.specs.Formula.{Formula, tru, fls, lit, and, or, next, until, release, same}
 use Rattle.logic.specs.Rule.{Rule, negated}
 use Rattle.logic.specs.Labels.{once, kept}

@@ -1,5 +1,5 @@
 -- Worked histories and lines out of place, each by computing. Assumes nothing.
-use Rattle.std.specs.Prelude.{◌≡◌, ℕ, true, false, List, [], ◌∷◌, Some, None, Ok, Err, codes, Option}
+use Rattle.std.specs.Prelude.{◌≡◌, ℕ, [], ◌∷◌, Some, None, Ok, Err, codes, Option}
 use Rattle.meaning.specs.declared.refusals.NamesFault.TheVariants.{Unfit}
 use Rattle.meaning.specs.declared.refusals.FillingFault.TheVariants.{NoRule, LabelsExceed, StandingsExceed}
 use Rattle.meaning.specs.declared.refusals.LineFault.TheVariants.{Table}

@@ -11,7 +11,7 @@ use Rattle.meaning.specs.Refusals.{number_of_line_fault, place_of_line_fault, la
 use Rattle.meaning.specs.Bytes.{Text}
 use Rattle.meaning.specs.Charts.{Areas}
 use Rattle.meaning.specs.Files.{Rooms, RightLoading, content}
-use Rattle.meaning.specs.Calls.{Call, loading, filling, searching, table, Event, History}
+use Rattle.meaning.specs.Calls.{loading, filling, searching, table, Event, History}
 use Rattle.meaning.specs.Right.{Right}
 
 -- room for 256 states and 1,024 steps, 512 labels, 32 standings and 1,024 pairs; the walk area is longer by one

@@ -1,5 +1,5 @@
 -- Worked rules with their counts and breaches, and searches over the sample file's table and the stuck layer on it. Assumes nothing.
-use Rattle.std.specs.Prelude.{◌≡◌, ℕ, ◌<◌, ◌≤◌, ◌≢◌, List, [], ◌∷◌, length, Ok, Err, codes}
+use Rattle.std.specs.Prelude.{ℕ, ◌<◌, ◌≤◌, ◌≢◌, List, [], ◌∷◌, length, Ok, Err, codes}
 use Rattle.meaning.specs.declared.refusals.SearchingFault.TheVariants.{PairsExceed}
 use Rattle.meaning.specs.declared.answers.Verdict.TheVariants.{Shown, Clear}
 use Rattle.logic.specs.Witness.{Breach}

@@ -1,10 +1,10 @@
 -- The entries' own walks.
-use Rattle.std.proofs.Common.{◌≡◌, ℕ, zero, suc, ◌+◌, ◌*◌, ◌<◌, ◌≤◌, Bool, true, false, ◌⊎◌, List, [], ◌∷◌, ◌++◌, length, get_or, sym, refl, ap, ◌∙◌, subst, ap₂, inl, inr, ⊎_elim, arith}
+use Rattle.std.proofs.Common.{◌≡◌, ℕ, zero, suc, ◌+◌, ◌<◌, List, [], ◌∷◌, ◌++◌, length, get_or, sym, refl, ap, ◌∙◌, subst, ap₂, ⊎_elim, arith}
 use Rattle.meaning.specs.Machines.{Meaning, Among}
 use Rattle.pairs.specs.declared.pair.Pair.{Pair}
 use Rattle.meaning.specs.Walks.{Walk, last}
 use Rattle.pairs.specs.Readers.{Reader, standing_of}
-use Rattle.pairs.specs.Stages.{no_pair, state_at, standing_at, parent_at, depth_at, next_at, Comes, Stage, chain}
+use Rattle.pairs.specs.Stages.{no_pair, state_at, standing_at, parent_at, depth_at, next_at, Comes, chain}
 use Rattle.pairs.proofs.Walks.{walk_push, last_push, length_push, standing_push}
 
 -- xs is a walk of d states with the pair s, q

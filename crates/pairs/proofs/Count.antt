@@ -1,10 +1,10 @@
 -- Counting: how many pairs, and when they do not fit.
-use Rattle.std.proofs.Common.{◌≡◌, ℕ, zero, suc, ◌+◌, ◌*◌, ◌<◌, ◌≤◌, Bool, true, false, cond, eqb, ltb, ◌⊎◌, List, [], ◌∷◌, ◌++◌, length, get_or, sym, refl, ap, ◌∙◌, subst, ap₂, inl, inr, ⊎_elim, arith, ltb-false, ltb-true}
-use Rattle.meaning.specs.Machines.{Meaning, Among}
+use Rattle.std.proofs.Common.{◌≡◌, ℕ, zero, suc, ◌<◌, ◌≤◌, Bool, true, false, cond, eqb, ltb, List, length, sym, refl, ap, ◌∙◌, arith, ltb-true}
+use Rattle.meaning.specs.Machines.{Meaning}
 use Rattle.pairs.specs.declared.pair.Pair.{Pair}
 use Rattle.meaning.specs.Walks.{Walk, last}
 use Rattle.pairs.specs.Readers.{Reader, standing_of, SamePair, Pairs, Fit}
-use Rattle.pairs.specs.Stages.{no_pair, state_at, standing_at, depth_at, Has, Over, Stage, chain}
+use Rattle.pairs.specs.Stages.{state_at, standing_at, depth_at, Has, Over, Stage, chain}
 use Rattle.pairs.proofs.Chain.{Leads, leads}
 
 moved : ℕ → ℕ → ℕ → ℕ

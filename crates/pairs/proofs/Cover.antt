@@ -1,10 +1,10 @@
 -- Levels: what is kept covers the walks of so many states.
-use Rattle.std.proofs.Common.{◌≡◌, ℕ, zero, suc, ◌+◌, ◌*◌, ◌<◌, ◌≤◌, Bool, true, false, List, [], ◌∷◌, ◌++◌, length, get_or, sym, refl, ap, ◌∙◌, subst, ap₂, arith}
+use Rattle.std.proofs.Common.{◌≡◌, ℕ, zero, suc, ◌+◌, ◌<◌, ◌≤◌, true, false, List, [], ◌∷◌, ◌++◌, length, get_or, sym, refl, ap, ◌∙◌, subst, ap₂, arith}
 use Rattle.meaning.specs.Machines.{Meaning, Among}
 use Rattle.pairs.specs.declared.pair.Pair.{Pair}
 use Rattle.meaning.specs.Walks.{Walk, last, word}
 use Rattle.pairs.specs.Readers.{Reader, standing_of, Broken, after}
-use Rattle.pairs.specs.Stages.{no_pair, state_at, standing_at, next_at, bad, Has, Grows, StartsKept, StartsGood, KeptFrom, GoodFrom, Covered}
+use Rattle.pairs.specs.Stages.{no_pair, state_at, next_at, bad, Has, Grows, StartsKept, StartsGood, KeptFrom, GoodFrom, Covered}
 use Rattle.pairs.proofs.Walks.{View, one, more, view, walk_some, last_push, length_push, standing_push, after_whole}
 
 pub has_grows : (E : List Pair) (n : ℕ) (F : List Pair) (k s q : ℕ) → Grows E n F k → Has E n s q → Has F k s q

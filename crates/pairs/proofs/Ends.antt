@@ -1,12 +1,12 @@
 -- From level to level, and the three ends of a search.
-use Rattle.std.proofs.Common.{◌≡◌, ℕ, zero, suc, ◌+◌, ◌*◌, ◌<◌, ◌≤◌, Bool, true, false, ◌⊎◌, List, [], ◌∷◌, ◌++◌, length, get_or, take, drop, set, sym, refl, ap, ◌∙◌, subst, ap₂, inl, inr, ⊎_elim, arith}
+use Rattle.std.proofs.Common.{◌≡◌, ℕ, ◌+◌, ◌<◌, ◌≤◌, Bool, true, false, ◌⊎◌, List, [], ◌∷◌, ◌++◌, length, get_or, take, drop, set, sym, refl, ap, ◌∙◌, subst, inl, inr, ⊎_elim, arith}
 use Rattle.meaning.specs.Machines.{Meaning, Among}
 use Rattle.pairs.specs.declared.pair.Pair.{Pair}
 use Rattle.pairs.specs.declared.level.Tally.{Tally}
-use Rattle.meaning.specs.Walks.{Walk, last, word}
-use Rattle.pairs.specs.Readers.{Reader, standing_of, Broken, Breach, Pairs, Fit, Shorter, AnyWalk, Shortest, Showable, Clearable, after}
+use Rattle.meaning.specs.Walks.{Walk, last}
+use Rattle.pairs.specs.Readers.{Reader, standing_of, Broken, Breach, Fit, Shorter, AnyWalk, after}
 use Rattle.pairs.specs.Verdicts.{Shows, Clears, Exceeds}
-use Rattle.pairs.specs.Stages.{no_pair, state_at, standing_at, parent_at, depth_at, next_at, bad, Has, Comes, Over, Stage, StageOf, Goes_on, Grows, KeptFrom, GoodFrom, Covered, Breaks, LevelPart, Between, Begun, Rooted, chain}
+use Rattle.pairs.specs.Stages.{no_pair, state_at, standing_at, parent_at, depth_at, next_at, bad, Has, Comes, Stage, StageOf, Goes_on, Grows, KeptFrom, GoodFrom, Covered, Breaks, LevelPart, Between, Begun, Rooted, chain}
 use Rattle.std.proofs.lemmas.List.{take_more_set, drop-set-lt, length-set}
 use Rattle.pairs.proofs.Walks.{after_whole, walk_some, length_push}
 use Rattle.pairs.proofs.Cover.{has_grows, kept_grows, good_grows, covered_more, covered_none, covered_all, all_good}

@@ -1,10 +1,10 @@
 -- Leaving an entry, or beginning: one state after another is tried.
-use Rattle.std.proofs.Common.{◌≡◌, ℕ, zero, suc, ◌+◌, ◌*◌, ◌<◌, ◌≤◌, Bool, true, false, ◌≢◌, ◌⊎◌, List, [], ◌∷◌, ◌++◌, length, get_or, set, sym, refl, ap, ◌∙◌, subst, ap₂, inl, inr, ⊎_elim, arith, below_more}
+use Rattle.std.proofs.Common.{◌≡◌, ℕ, zero, suc, ◌+◌, ◌<◌, ◌≤◌, true, false, List, [], ◌∷◌, length, get_or, sym, refl, ◌∙◌, subst, inl, inr, ⊎_elim, arith, below_more}
 use Rattle.meaning.specs.Machines.{Meaning, Among}
 use Rattle.pairs.specs.declared.pair.Pair.{Pair}
 use Rattle.pairs.specs.declared.level.Tally.{Tally}
 use Rattle.pairs.specs.Readers.{Reader}
-use Rattle.pairs.specs.Stages.{no_pair, state_at, standing_at, parent_at, depth_at, next_at, bad, Has, Comes, Over, Stage, StageOf, Keeps, Goes_on, Grows, Tries, KeptFrom, GoodFrom, Left, Breaks, nothing_kept, Begun}
+use Rattle.pairs.specs.Stages.{state_at, depth_at, next_at, bad, Has, Comes, StageOf, Keeps, Goes_on, Tries, Left, Breaks, nothing_kept, Begun}
 use Rattle.pairs.proofs.Cover.{has_grows}
 use Rattle.pairs.proofs.Putting.{Put, grows_none, grows_join, keeps_put}
 

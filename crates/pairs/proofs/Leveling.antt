@@ -1,10 +1,10 @@
 -- One level.
-use Rattle.std.proofs.Common.{◌≡◌, ℕ, zero, suc, ◌+◌, ◌*◌, ◌<◌, ◌≤◌, Bool, true, false, List, [], ◌∷◌, ◌++◌, length, get_or, set, sym, refl, ap, ◌∙◌, subst, ap₂, arith, below_more}
+use Rattle.std.proofs.Common.{◌≡◌, ℕ, ◌+◌, ◌<◌, ◌≤◌, true, List, sym, ap, ◌∙◌, subst, arith, below_more}
 use Rattle.meaning.specs.Machines.{Meaning, Among}
 use Rattle.pairs.specs.declared.pair.Pair.{Pair}
 use Rattle.pairs.specs.declared.level.Tally.{Tally}
 use Rattle.pairs.specs.Readers.{Reader}
-use Rattle.pairs.specs.Stages.{no_pair, state_at, standing_at, depth_at, next_at, bad, Has, Stage, StageOf, Goes_on, Grows, KeptFrom, GoodFrom, Left, Breaks, LevelPart}
+use Rattle.pairs.specs.Stages.{depth_at, bad, StageOf, Goes_on, KeptFrom, GoodFrom, Left, Breaks, LevelPart}
 use Rattle.pairs.proofs.Cover.{kept_grows, good_grows}
 use Rattle.pairs.proofs.Leaving.{goes_none, goes_join}
 

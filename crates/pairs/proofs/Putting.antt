@@ -1,13 +1,12 @@
 -- Keeping one pair.
-use Rattle.std.proofs.Common.{◌≡◌, ℕ, zero, suc, ◌+◌, ◌*◌, ◌<◌, ◌≤◌, Bool, true, false, ◌≢◌, ◌⊎◌, List, [], ◌∷◌, ◌++◌, length, get_or, set, sym, refl, ap, ◌∙◌, subst, ap₂, inl, inr, ⊎_elim, arith, below_more}
+use Rattle.std.proofs.Common.{◌≡◌, ℕ, ◌+◌, ◌<◌, ◌≤◌, Bool, true, false, ◌≢◌, ◌⊎◌, List, length, get_or, set, sym, refl, ap, ◌∙◌, subst, inl, inr, ⊎_elim, arith, below_more}
 use Rattle.std.proofs.lemmas.List.{get_or-set_same, get_or-set_other, length-set}
 use Rattle.meaning.specs.Machines.{Meaning, Among}
 use Rattle.pairs.specs.declared.pair.Pair.{Pair}
 use Rattle.pairs.specs.declared.level.Tally.{Tally}
-use Rattle.meaning.specs.Walks.{Walk, last}
-use Rattle.pairs.specs.Readers.{Reader, standing_of}
-use Rattle.pairs.specs.Stages.{no_pair, state_at, standing_at, parent_at, depth_at, next_at, Has, Comes, Over, Stage, StageOf, Keeps, Goes_on, Grows}
-use Rattle.pairs.proofs.Chain.{Leads, comes_leads}
+use Rattle.pairs.specs.Readers.{Reader}
+use Rattle.pairs.specs.Stages.{no_pair, state_at, standing_at, depth_at, next_at, Has, Comes, Stage, StageOf, Keeps, Goes_on, Grows}
+use Rattle.pairs.proofs.Chain.{comes_leads}
 
 below_split : (a i : ℕ) → a < i + 1 → (a < i) ⊎ (a ≡ i)
 below_split a i l = grind arith

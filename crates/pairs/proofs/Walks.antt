@@ -1,6 +1,6 @@
 -- A walk by its last state.
-use Rattle.std.proofs.Common.{◌≡◌, ℕ, zero, suc, ◌+◌, ◌*◌, ◌<◌, ◌≤◌, Bool, true, false, List, [], ◌∷◌, ◌++◌, map, length, sym, refl, ap, ◌∙◌, subst, ap₂, append_assoc, arith, length-append}
-use mathlib.Core.List.{foldl, foldl-append}
+use Rattle.std.proofs.Common.{◌≡◌, ℕ, suc, ◌<◌, List, [], ◌∷◌, ◌++◌, length, sym, refl, ap, ◌∙◌, append_assoc, arith}
+use mathlib.Core.List.{foldl-append}
 use Rattle.std.proofs.lemmas.List.{map-append}
 use Rattle.meaning.specs.Machines.{Meaning, Among}
 use Rattle.meaning.specs.Walks.{Steps, Walk, word, last_from, last, front_from, front}

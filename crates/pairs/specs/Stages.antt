@@ -1,5 +1,5 @@
 -- The pairs kept so far, and how far the exploration of walks has come. Assumes nothing.
-use Rattle.std.specs.Prelude.{◌≡◌, ℕ, zero, suc, ◌+◌, ◌*◌, ◌<◌, ◌≤◌, Bool, true, false, ◌⊎◌, List, [], ◌∷◌, ◌++◌, length, get_or, ◌≢◌, slice_index, slice_index_or, slice_set}
+use Rattle.std.specs.Prelude.{◌≡◌, ℕ, zero, suc, ◌+◌, ◌<◌, ◌≤◌, Bool, true, false, ◌⊎◌, List, [], ◌∷◌, ◌++◌, length, get_or, ◌≢◌, slice_index, slice_index_or, slice_set}
 use Rattle.meaning.specs.Machines.{Meaning, Among}
 use Rattle.meaning.specs.Walks.{Walk, last, word}
 use Rattle.pairs.specs.Readers.{Reader, standing_of, after}

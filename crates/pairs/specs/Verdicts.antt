@@ -1,5 +1,5 @@
 -- What an exploration by a reader answers, and what that says of the rule that the reader reads. Assumes nothing.
-use Rattle.std.specs.Prelude.{◌≡◌, ℕ, ◌<◌, ◌≤◌, true, ◌↔◌, List, length, take, drop, Ok, Err, Result}
+use Rattle.std.specs.Prelude.{◌≡◌, ℕ, ◌≤◌, true, ◌↔◌, List, length, take, drop, Ok, Err, Result}
 use Rattle.logic.specs.Formula.{Formula, Letters}
 use Rattle.logic.specs.Witness.{Breach as BreachOf}
 use Rattle.meaning.specs.declared.answers.Verdict.{Verdict}

@@ -23,7 +23,7 @@ use Rattle.meaning.specs.Sheets.{Equal, Used, SheetIsFull, KeptOf, IsOverKept}
 use Rattle.meaning.specs.Entering.{RightEntering}
 use Rattle.texts.specs.Fit.{Fit}
 use Rattle.texts.specs.Parse.{Parsed, parse}
-use Rattle.texts.specs.Judged.{ended, read_rule, judge, judge_rule, judged}
+use Rattle.texts.specs.Judged.{ended, read_rule, judge_rule, judged}
 use Rattle.texts.specs.Listed.{added, listed}
 use Rattle.texts.specs.Reader.{fault_of}
 use Rattle.texts.specs.Entered.{BreachFormulas, numbered, ListsCountWhatIsSpecified, JudgingAnswersRightly}

@@ -1,15 +1,15 @@
 -- The reader finds the fault of the specification.
-use Rattle.std.proofs.Common.{◌≡◌, ℕ, zero, suc, ◌+◌, ◌-◌, ◌<◌, ◌≤◌, Bool, true, false, cond, ◌&&◌, ◌||◌, eqb, leb, List, [], ◌∷◌, ◌++◌, length, get_or, take, drop, Some, None, Ok, Err, codes, Option, Result, sym, refl, ap, ◌∙◌, subst, ap₂, add-one, arith, length-append, take-append-drop}
+use Rattle.std.proofs.Common.{◌≡◌, ℕ, zero, suc, ◌+◌, ◌-◌, ◌<◌, ◌≤◌, Bool, true, false, cond, ◌&&◌, ◌||◌, eqb, List, [], ◌∷◌, length, take, drop, Some, None, Ok, Err, codes, Option, sym, refl, ap, ◌∙◌, subst, ap₂, add-one, arith, length-append, take-append-drop}
 use Rattle.std.specs.Str.{bytes_eq}
 use Rattle.std.specs.List.{AllByRecursion}
 use Rattle.std.proofs.lemmas.Bool.{and_right, cond-true, cond-false, le-leb, lt-leb}
 use Rattle.std.proofs.lemmas.Slice.Eq.{bytes_eq-Decides}
 use Rattle.logic.specs.Rule.{Rule}
 use Rattle.meaning.specs.declared.refusals.RuleFault.{RuleFault}
-use Rattle.meaning.specs.declared.refusals.RuleFault.TheVariants.{WrongWord, WordWanted, BytesFollow, TooDeep}
+use Rattle.meaning.specs.declared.refusals.RuleFault.TheVariants.{WordWanted, BytesFollow, TooDeep}
 use Rattle.meaning.specs.Bytes.{Text, is_empty, one_of, before_first, parted}
-use Rattle.meaning.specs.Faults.{operands, at_word, fault_from, text_fault}
-use Rattle.texts.specs.declared.words.Leaf.TheVariants.{True, False, Name}
+use Rattle.meaning.specs.Faults.{operands, at_word, fault_from}
+use Rattle.texts.specs.declared.words.Leaf.TheVariants.{True, False}
 use Rattle.texts.specs.declared.words.Unary.{Unary}
 use Rattle.texts.specs.declared.words.Unary.TheVariants.{Not, Next, Finally, Globally}
 use Rattle.texts.specs.declared.words.Binary.{Binary}
@@ -17,13 +17,12 @@ use Rattle.texts.specs.declared.words.Binary.TheVariants.{And, Or, Implies, Unti
 use Rattle.texts.specs.declared.words.Word.{Word}
 use Rattle.texts.specs.declared.words.Word.TheVariants.{Zero, One, Two}
 use Rattle.texts.specs.Places.{length_to, place_of, one_later}
-use Rattle.texts.specs.Words.{word_of, or_name, fixed_word, long_word, operator_word, heads, allowed}
+use Rattle.texts.specs.Words.{word_of, or_name, fixed_word, heads, allowed}
 use Rattle.texts.specs.Parse.{Parsed, unary_parsed, binary_parsed, operands_parsed, word_parsed, parse}
-use Rattle.texts.specs.Fit.{FitName, Fit}
-use Rattle.texts.specs.Judged.{ended, read_rule}
+use Rattle.texts.specs.Fit.{FitName}
+use Rattle.texts.specs.Judged.{ended}
 use Rattle.texts.specs.Reader.{fault_of, ReadingFindsTheFault}
 use Rattle.texts.proofs.OfNames.{same_true, same_false}
-use Rattle.texts.proofs.OfText.{length_to_le}
 
 -- ---- words
 

@@ -1,5 +1,5 @@
 -- The words of a text, as the reader meets them.
-use Rattle.std.proofs.Common.{◌≡◌, ℕ, zero, suc, ◌-◌, ◌<◌, Bool, true, false, ◌&&◌, ltb, List, [], ◌∷◌, length, get_or, take, drop, Some, None, Ok, Err, codes, IsUtf8, IsAscii, Option, Result, sym, refl, ap, ◌∙◌, subst, arith}
+use Rattle.std.proofs.Common.{◌≡◌, ℕ, zero, suc, ◌-◌, ◌<◌, Bool, true, ◌&&◌, ltb, List, [], ◌∷◌, length, get_or, take, drop, Some, None, Ok, Err, codes, IsUtf8, IsAscii, Option, Result, sym, refl, ap, ◌∙◌, subst, arith}
 use Rattle.std.proofs.lemmas.Bool.Decides.{nat_tests}
 use Rattle.texts.specs.Places.{length_to}
 use Rattle.texts.specs.Places.{place_of}

@@ -1,3 +1,5 @@
+#![tactic(auto)]
+
 // Tests of single calls, above all of the refusals that no file can bring about.
 // Nothing stands on it.
 #[cfg(test)]

@@ -1,4 +1,6 @@
 // Runs the stored cases: data/NNN.in is a file, data/NNN.out what is to be printed for it.
+#![tactic(auto)]
+
 use report::report::report;
 use std::fs;
 

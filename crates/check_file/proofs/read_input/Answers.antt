@@ -1,4 +1,4 @@
-use Rattle.std.proofs.Common.{◌≡◌, ◌+◌, ◌-◌, ◌≤◌, ◌∙◌, rules}
+use Rattle.std.proofs.Common.{◌+◌, ◌-◌, ◌≤◌, ◌∙◌, rules}
 use borrow.Rule.Slice.PartMut.{same_len_mid}
 use Rattle.check_file.proofs.read_input.Goals as goal
 

@@ -1,4 +1,4 @@
-use Rattle.std.proofs.Common.{arith, length-drop, length-take, rules}
+use Rattle.std.proofs.Common.{arith, rules}
 use Rattle.lines.proofs.OfFields.{parted_at, parted_none, part_shorter}
 use Rattle.lines.proofs.cut.Goals as goal
 

@@ -1,4 +1,4 @@
-use Rattle.std.proofs.Common.{arith, rules}
+use Rattle.std.proofs.Common.{arith}
 use Rattle.lines.proofs.OfFields.{bad_step, good_step, end_step}
 use Rattle.lines.proofs.digits.Goals as goal
 use Rattle.lines.proofs.digits.Goals.{then-b-lt48-via-then-b-lt48, then-b-lt48-via-else-b-lt48+then-b-gt57, then-n-gt65536, else-n-gt65536}

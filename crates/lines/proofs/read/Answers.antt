@@ -1,4 +1,3 @@
-use Rattle.std.proofs.Common.{rules}
 use Rattle.lines.proofs.OfFields.{state_line, step_line, no_line}
 use Rattle.lines.proofs.read.Goals as goal
 

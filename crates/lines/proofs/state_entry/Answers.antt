@@ -1,4 +1,3 @@
-use Rattle.std.proofs.Common.{rules}
 use Rattle.lines.proofs.OfFields.{third_none}
 use Rattle.lines.proofs.state_entry.Goals as goal
 

@@ -1,5 +1,3 @@
-use Rattle.std.proofs.Common.{◌≡◌, [], rules}
-use Rattle.meaning.specs.Bytes.{parted}
 use Rattle.lines.proofs.OfFields.{parted_some}
 use Rattle.lines.proofs.two.Goals as goal
 

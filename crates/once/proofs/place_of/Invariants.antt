@@ -1,5 +1,4 @@
 use Rattle.once.specs.Once.{New}
-use Rattle.std.proofs.Common.{◌≤◌, length}
 use Rattle.once.proofs.place_of.Given as goal
 
 abbrev pub invariant-loop-i : goal.invariant-loop-i

@@ -63,7 +63,8 @@ returns g c =
     let s = searchable m p (length w) (λ e. omega arith) (omega arith) (omega arith) in
     let is = searched d m (g.M.Machine.lawful c.args.machine.now) p w w' x filled s c.run.auto.walk h in
     record {
-      answers = for_each d m p w w' x is; led = answered d m p w w' x is;
+      answers = for_each d m p w w' x is;
+      led = answered d m p w w' x is;
       reads = is;
       within = within m (reader_of d) p w w' x h;
       early = λ e. absurd (not_early m (reader_of d) p w w' x h e);

@@ -1,4 +1,4 @@
-use Rattle.std.proofs.Common.{◌≡◌, ℕ, ◌+◌, ◌<◌, ◌≤◌, false, length, drop, sym, refl, ap, ◌∙◌, arith}
+use Rattle.std.proofs.Common.{ℕ, ◌+◌, ◌<◌, ◌≤◌, false, length, drop, sym, refl, ap, ◌∙◌, arith}
 use Rattle.pairs.specs.declared.level.Tally.{Tally}
 use Rattle.pairs.specs.Stages.{depth_at}
 use Rattle.pairs.proofs.Ends.{next_stage, refused, begin_clean, begin_holds, level_clean, level_again, cleared, start_shown, walk_shown, rooted}

@@ -1,4 +1,4 @@
-use Rattle.std.proofs.Common.{◌≡◌, ◌-◌, false, length}
+use Rattle.std.proofs.Common.{◌≡◌, ◌-◌, length}
 use Rattle.pairs.specs.Stages.{StageOf, Between}
 use Rattle.breaches.specs.Charts.{reader_of, standings_of}
 use Rattle.breaches.proofs.find.run.Given as goal

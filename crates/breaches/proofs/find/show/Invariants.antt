@@ -1,4 +1,4 @@
-use Rattle.std.proofs.Common.{◌≡◌, ℕ, ◌+◌, ◌<◌, ◌≤◌, drop}
+use Rattle.std.proofs.Common.{◌≡◌, ◌+◌, ◌<◌, ◌≤◌, drop}
 use Rattle.pairs.specs.Stages.{depth_at}
 use Rattle.pairs.proofs.Showing.{written}
 use Rattle.breaches.proofs.find.show.Given as goal

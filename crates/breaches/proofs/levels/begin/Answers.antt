@@ -1,4 +1,4 @@
-use Rattle.std.proofs.Common.{length, sym, ◌∙◌, arith}
+use Rattle.std.proofs.Common.{sym, ◌∙◌, arith}
 use Rattle.meaning.specs.Machines.{Among}
 use Rattle.pairs.specs.Stages.{nothing_kept}
 use Rattle.pairs.proofs.Leaving.{nothing_stage, tries_none, begin_again, begun, started}

@@ -1,4 +1,4 @@
-use Rattle.std.proofs.Common.{◌≡◌, ◌≤◌, length}
+use Rattle.std.proofs.Common.{◌≡◌, ◌≤◌}
 use Rattle.pairs.specs.Stages.{Tries, nothing_kept}
 use Rattle.breaches.specs.Charts.{reader_of, standings_of}
 use Rattle.breaches.proofs.levels.begin.Given as goal

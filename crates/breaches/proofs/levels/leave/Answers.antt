@@ -1,7 +1,7 @@
-use Rattle.std.proofs.Common.{◌≡◌, ℕ, ◌+◌, ◌*◌, ◌<◌, ◌≤◌, List, length, get_or, sym, ap, ◌∙◌, subst, arith}
+use Rattle.std.proofs.Common.{◌≡◌, ℕ, List, length, get_or, sym, ap, ◌∙◌, subst, arith}
 use Rattle.meaning.specs.Machines.{Meaning}
 use Rattle.pairs.specs.declared.pair.Pair.{Pair}
-use Rattle.pairs.specs.Stages.{no_pair, next_at, standing_at, state_at}
+use Rattle.pairs.specs.Stages.{no_pair, next_at, state_at}
 use Rattle.pairs.specs.Readers.{Reader}
 use Rattle.pairs.proofs.Leaving.{tries_none, leave_again, left, breaks}
 use Rattle.breaches.specs.Charts.{reader_of, standings_of}

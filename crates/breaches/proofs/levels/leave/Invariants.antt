@@ -1,4 +1,4 @@
-use Rattle.std.proofs.Common.{◌≡◌, ◌≤◌, length}
+use Rattle.std.proofs.Common.{◌≡◌, ◌≤◌}
 use Rattle.pairs.specs.Stages.{Tries, state_at}
 use Rattle.breaches.specs.Charts.{reader_of, standings_of}
 use Rattle.breaches.proofs.levels.leave.Given as goal

@@ -1,4 +1,4 @@
-use Rattle.std.proofs.Common.{length, arith}
+use Rattle.std.proofs.Common.{arith}
 use Rattle.pairs.proofs.Leveling.{part_none, part_more, part_all, depth_stays, breaks_back}
 use Rattle.breaches.specs.Charts.{reader_of, standings_of}
 use Rattle.breaches.proofs.levels.level.Goals as goal

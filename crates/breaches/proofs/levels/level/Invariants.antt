@@ -1,4 +1,4 @@
-use Rattle.std.proofs.Common.{◌≡◌, ◌≤◌, length}
+use Rattle.std.proofs.Common.{◌≡◌, ◌≤◌}
 use Rattle.pairs.specs.Stages.{LevelPart}
 use Rattle.breaches.specs.Charts.{reader_of, standings_of}
 use Rattle.breaches.proofs.levels.level.Given as goal

@@ -1,4 +1,4 @@
-use Rattle.std.proofs.Common.{◌≡◌, ◌-◌, length, take, ◌∙◌, arith, length-take}
+use Rattle.std.proofs.Common.{◌≡◌, ◌-◌, length, take, arith, length-take}
 use lib.ListN.{length-replicate}
 use Rattle.meaning.specs.Charts.{label_room, standing_room}
 use Rattle.charting.specs.Filled.{areas_of}

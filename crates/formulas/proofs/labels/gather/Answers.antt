@@ -1,6 +1,5 @@
-use Rattle.std.proofs.Common.{◌≡◌, ◌-◌, ◌≤◌, false, map, length, get_or, drop, sym, refl, ap, arith, rules}
+use Rattle.std.proofs.Common.{◌-◌, false, map, get_or, sym, ap, arith}
 use lib.Seq.{drop-length}
-use mir.Val.{bool_byte}
 use Rattle.logic.specs.Masks.{mask}
 use Rattle.formulas.proofs.Steps.{gather_more, gather_fits, bit_small}
 use Rattle.formulas.proofs.labels.gather.Goals as goal

@@ -1,4 +1,4 @@
-use Rattle.std.proofs.Common.{refl, arith, rules}
+use Rattle.std.proofs.Common.{refl}
 use Rattle.logic.specs.Formula.{on}
 use Rattle.formulas.proofs.Steps.{spread_more}
 use Rattle.formulas.proofs.labels.spread.Goals as goal

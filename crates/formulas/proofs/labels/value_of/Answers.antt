@@ -1,4 +1,4 @@
-use Rattle.std.proofs.Common.{sym, refl, ap}
+use Rattle.std.proofs.Common.{sym, ap}
 use Rattle.logic.specs.Formula.{on}
 use Rattle.formulas.specs.Values.{value}
 use Rattle.formulas.proofs.labels.value_of.Goals as goal

@@ -1,4 +1,4 @@
-use Rattle.std.proofs.Common.{arith, rules}
+use Rattle.std.proofs.Common.{rules}
 use Rattle.formulas.proofs.Steps.{valued_more}
 use Rattle.formulas.proofs.labels.values.Goals as goal
 

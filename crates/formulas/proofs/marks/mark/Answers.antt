@@ -1,7 +1,7 @@
-use Rattle.std.proofs.Common.{◌≡◌, ℕ, ◌-◌, Bool, false, List, get_or, replicate, sym, refl, ap, ◌∙◌, subst, arith, rules}
+use Rattle.std.proofs.Common.{◌≡◌, ℕ, ◌-◌, Bool, false, List, get_or, replicate, sym, refl, subst, arith, rules}
 use Rattle.formulas.specs.declared.node.Node.TheVariants.{True}
-use Rattle.formulas.specs.Marks.{Marking, Marked, mark_parts, mark_kept}
-use Rattle.formulas.proofs.Marking.{marking_start, marking_on, marking_off, marked, none_marked}
+use Rattle.formulas.specs.Marks.{Marking, mark_parts, mark_kept}
+use Rattle.formulas.proofs.Marking.{marking_start, marking_on, marked, none_marked}
 use Rattle.formulas.proofs.marks.mark.Goals as goal
 
 pub loop-k-init : goal.loop-k-init

@@ -1,6 +1,6 @@
-use Rattle.std.proofs.Common.{◌≡◌, ℕ, ◌+◌, ◌<◌, List, length, set, sym, subst, arith, rules}
+use Rattle.std.proofs.Common.{ℕ, ◌+◌, ◌<◌, List, set, sym, subst, arith}
 use Rattle.formulas.specs.Marks.{Picked}
-use Rattle.formulas.proofs.Marking.{picked_none, picked_more, picked_skip, beyond}
+use Rattle.formulas.proofs.Marking.{picked_more, picked_skip, beyond}
 use Rattle.formulas.proofs.marks.pick.Goals as goal
 use Rattle.formulas.proofs.marks.pick.Goals.{then-flags-k+else-m-eq32, else-flags-k}
 

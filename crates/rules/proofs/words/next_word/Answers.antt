@@ -1,4 +1,4 @@
-use Rattle.std.proofs.Common.{◌≡◌, ◌-◌, Some, ap, ◌∙◌, arith, true-eqb, false-eqb}
+use Rattle.std.proofs.Common.{◌≡◌, Some, ap, ◌∙◌, arith, true-eqb, false-eqb}
 use Rattle.texts.proofs.OfWords.{heads_none, heads_some, none_at, zero_at, one_at, two_at, deep_one, deep_two}
 use Rattle.rules.specs.Names.{names_held}
 use Rattle.texts.specs.Words.{heads, allowed}

@@ -1,4 +1,4 @@
-use Rattle.std.proofs.Common.{refl, arith, rules}
+use Rattle.std.proofs.Common.{refl, arith}
 use Rattle.charts.proofs.SoundSteps.{blank_sound}
 use Rattle.charts.proofs.LedSteps.{blank_led}
 use Rattle.charts.proofs.chart.Chart.new.Goals as goal

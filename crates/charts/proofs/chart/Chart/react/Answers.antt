@@ -1,7 +1,5 @@
-use Rattle.std.proofs.Common.{◌≡◌, ◌+◌, ◌*◌, ◌<◌, ◌≤◌, sym, ◌∙◌, subst, arith, rules}
+use Rattle.std.proofs.Common.{◌+◌, ◌*◌, ◌<◌, ◌≤◌, sym, subst, arith, rules}
 use Rattle.charting.specs.Filled.{after}
-use Rattle.charts.specs.declared.state.State.{State}
-use Rattle.charts.specs.declared.state.State.TheVariants.{Watching}
 use Rattle.charts.specs.Sound.{BlankOrWhole}
 use Rattle.charts.proofs.SoundSteps.{few_of, watching_some, begun_sound, broken_sound, going_sound}
 use Rattle.charts.proofs.chart.Chart.react.Goals as goal

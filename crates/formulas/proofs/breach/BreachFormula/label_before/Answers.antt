@@ -1,4 +1,4 @@
-use Rattle.std.proofs.Common.{◌<◌, ◌≤◌, length, take, arith, length-take-le, rules}
+use Rattle.std.proofs.Common.{◌<◌, ◌≤◌, length, take, arith, length-take-le}
 use Rattle.formulas.proofs.Parts.{Front, front, part_is}
 use Rattle.formulas.proofs.Placed.{topological}
 use Rattle.formulas.proofs.Steps.{label_step}

@@ -1,4 +1,4 @@
-use Rattle.std.proofs.Common.{◌≡◌, ℕ, ◌<◌, List, length, take, sym, refl, ap, subst, arith, rules}
+use Rattle.std.proofs.Common.{◌<◌, List, length, take, sym, refl, subst, arith}
 use Rattle.formulas.specs.declared.node.Node.{Node}
 use Rattle.formulas.specs.Nodes.{OperandsFirst, SignalsSmall}
 use Rattle.formulas.specs.Keeps.{Keeps}

@@ -1,6 +1,5 @@
 use Rattle.std.proofs.Common.{◌<◌, length, take, drop, ap, ◌∙◌, arith, rules}
 use Rattle.std.proofs.lemmas.Slice.{between_to_end}
-use Rattle.texts.specs.Places.{length_to}
 use Rattle.texts.proofs.OfOpening.{opens_none}
 use Rattle.rules.proofs.OfOpening.{opens_last, opens_more}
 use Rattle.rules.proofs.names.opening.+read_more.Goals as goal

@@ -1,8 +1,7 @@
-use Rattle.std.proofs.Common.{◌≡◌, List, [], sym, subst}
+use Rattle.std.proofs.Common.{List, [], sym, subst}
 use Rattle.meaning.specs.Bytes.{Text}
 use Rattle.texts.specs.Fit.{Fit}
 use Rattle.texts.proofs.OfOpening.{fit_none}
-use Rattle.rules.specs.Names.{names_held}
 use Rattle.rules.specs.Model.{Stands}
 use Rattle.rules.proofs.OfStands.{by_parts}
 use Rattle.rules.proofs.OfLed.{blank_is, untouched_led}
