@@ -23,9 +23,8 @@ fn at_line(line: usize, taken: Result<(), LineFault>) -> Result<(), FileFault>
 
 // Takes the lines one after another, up to the first that is refused.
 fn load_lines(sheet: &mut Sheet, table: &mut Table, file: &[u8]) -> Result<(), FileFault>
-    requires { Blank sheet.old (held_lines table.old) }
-    ensures answer { RightLoading (rooms_of table.old) file.now result }
-    ensures accepted { OnOk result (HasFile file.now sheet.new (held_lines table.new)) }
+    ensures answer { Blank sheet.old (held_lines table.old) → RightLoading (rooms_of table.old) file.now result }
+    ensures accepted { Blank sheet.old (held_lines table.old) → OnOk result (HasFile file.now sheet.new (held_lines table.new)) }
     ensures rooms { rooms_of table.new ≡ rooms_of table.old }
     ensures states { table.new.states.ghost_name ≡ table.old.states.ghost_name }
     ensures steps { table.new.steps.ghost_name ≡ table.old.steps.ghost_name }

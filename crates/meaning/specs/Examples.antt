@@ -142,7 +142,7 @@ ShownExamples = record {
   refused_with_none : Searches (negated first_rule) sample_machine 0 (9 ∷ []) (Err PairsExceed, 9 ∷ []);
 }
 
--- the second is clear with pair room 3, and under the stuck layer on `stop` its shortest breach has 4 states: stated here, proved by no function here
+-- the second is clear with pair room 3, and under the stuck layer on `stop` its shortest breach has 4 states
 abbrev pub ClearExamples : Type 0
 ClearExamples = record {
   clear_with_three : Searches (negated second_rule) sample_machine 3 (9 ∷ (9 ∷ (9 ∷ (9 ∷ [])))) (Ok (Clear 3), 9 ∷ (9 ∷ (9 ∷ (9 ∷ []))));

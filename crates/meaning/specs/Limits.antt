@@ -1,4 +1,4 @@
--- Every limit from both sides: what is just within it, and what is just beyond. Assumes nothing.
+-- The limits of names, rules, areas, machines and files from both sides: what is just within, and what is just beyond. Assumes nothing.
 use Rattle.std.specs.Prelude.{◌≡◌, ℕ, zero, suc, ◌+◌, ◌≤◌, true, false, List, [], ◌∷◌, ◌++◌, map, length, replicate, Some, None, Ok, Err, codes}
 use Rattle.meaning.specs.declared.refusals.RuleFault.TheVariants.{TooDeep}
 use Rattle.meaning.specs.declared.refusals.SheetFault.TheVariants.{OverKept, SheetFull}

@@ -1,5 +1,5 @@
 // One file in, the printed text out.
-// The program (`check`) prints its answer, and the stored cases (`vectors`) run through it.
+// The program (`check_file`) prints its answer, and the stored cases (`vectors`) run through it.
 #![tactic(auto)]
 
 pub mod report;
