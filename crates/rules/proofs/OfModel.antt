@@ -22,6 +22,7 @@ use Rattle.rules.specs.Kept.{FewKept, BreachAt}
 use Rattle.rules.specs.Entering.{ReadsBreach}
 use Rattle.rules.specs.Stands.{PartsStand, SomeRules}
 use Rattle.rules.specs.Model.{Stands, Asked}
+use Rattle.rules.proofs.OfStands.{of_parts}
 use Rattle.rules.proofs.OfKept.{stored_formula}
 
 getD_end : (fs : List Formula) (f : Formula) (i : ℕ) → i ≡ length fs → get_or (fs ++ (f ∷ [])) i tru ≡ f
@@ -84,6 +85,10 @@ stands_blank names nodes count roots rules f c r = record {
   count_is = sym r;
   rooted = λ i h. absurd (omega arith);
 }
+
+pub stands_named : (s : Sheet) (ns : List Text) → names_held s.names ≡ ns → Fit ns → s.store.count ≡ 0 → s.rules ≡ 0 → Stands s ns []
+stands_named s ns e f c r =
+    subst (λ (v : List Text). Stands s v []) e (of_parts s (names_held s.names) [] (stands_blank s.names s.store.nodes s.store.count s.roots s.rules (subst Fit (sym e) f) c r))
 
 -- what holds of the roots so far and of the next holds of all of them
 pub set_roots : (P : ℕ → Type 0) (roots : List ℕ) (rules root : ℕ) → rules < length roots → ((i : ℕ) → i < rules → P (get_or roots i 0)) → P root → (i : ℕ) → i < rules + 1 → P (get_or (set roots rules root) i 0)

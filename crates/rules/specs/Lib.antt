@@ -1,3 +1,4 @@
+pub mod Letters
 pub mod Names
 pub mod Opening
 pub mod Nodes

@@ -1,5 +1,6 @@
 // The names of a sheet.
 ghost use Rattle.std.specs.Prelude.{◌≡◌, ◌≤◌, length};
+ghost use Rattle.rules.specs.Letters.{AreFit};
 
 pub mod look;
 pub mod opening;
@@ -10,11 +11,12 @@ pub struct Name {
     letters: [u8; 8],
 }
 
-// Up to eight names.
+// Up to eight names, fit for a sheet.
 #[derive(Clone, Copy)]
 pub struct Names {
     list: [Name; 8],
     count: usize,
     ghost size: { length list ≡ 8 },
     ghost few: { count ≤ 8 },
+    ghost fit: { AreFit list count },
 }

@@ -1,5 +1,5 @@
 // What makes and changes a sheet.
-ghost use Rattle.std.specs.Prelude.{ℕ, List, []};
+ghost use Rattle.std.specs.Prelude.{◌≡◌, ℕ, List, []};
 ghost use Rattle.logic.specs.Formula.{Formula};
 ghost use Rattle.meaning.specs.Bytes.{Text};
 ghost use Rattle.meaning.specs.Calls.{History};
@@ -19,8 +19,7 @@ use meaning::refusals::{NamesFault, SheetFault};
 impl Sheet {
     // A sheet with names and no rules.
     fn with_names(names: Names) -> Sheet
-        requires { Fit (names_held names) }
-        ensures { Stands result (names_held names) [] }
+        ensures { (ns : List Text) → names_held names ≡ ns → Fit ns → Stands result ns [] }
     {
         Sheet {
             names,

@@ -1,6 +1,4 @@
-use Rattle.std.proofs.Common.{List, [], sym, subst}
-use Rattle.meaning.specs.Bytes.{Text}
-use Rattle.texts.specs.Fit.{Fit}
+use Rattle.std.proofs.Common.{[]}
 use Rattle.texts.proofs.OfOpening.{fit_none}
 use Rattle.rules.specs.Model.{Stands}
 use Rattle.rules.proofs.OfStands.{by_parts}
@@ -8,10 +6,7 @@ use Rattle.rules.proofs.OfLed.{blank_is, untouched_led}
 use Rattle.rules.proofs.OfOpening.{names_none}
 use Rattle.rules.proofs.sheet.Sheet.new.Goals as goal
 
-pub with_names-requires : goal.with_names-requires
-with_names-requires c = subst Fit (sym (names_none _ _ c.none.ensures)) fit_none
-
 pub returns : goal.returns
 returns c =
-    let st : Stands c.with_names.result [] [] = subst (λ (ns : List Text). Stands c.with_names.result ns []) (names_none _ _ c.none.ensures) c.with_names.ensures in
+    let st : Stands c.with_names.result [] [] = c.with_names.ensures [] (names_none _ _ c.none.ensures) fit_none in
     record { stands = st; is = blank_is c.with_names.result [] (by_parts c.with_names.result [] [] st); led = untouched_led c.with_names.result (by_parts c.with_names.result [] [] st) }

@@ -1,8 +1,6 @@
-use Rattle.std.proofs.Common.{List, [], Ok, Err, sym, refl, subst}
+use Rattle.std.proofs.Common.{[], Ok, Err, refl}
 use Rattle.meaning.specs.declared.refusals.NamesFault.TheVariants.{Unfit}
-use Rattle.meaning.specs.Bytes.{Text}
 use Rattle.meaning.specs.Names.{names_of}
-use Rattle.texts.specs.Fit.{Fit}
 use Rattle.texts.proofs.OfFit.{fit_text, unfit_text}
 use Rattle.rules.specs.Model.{Stands}
 use Rattle.rules.specs.Led.{SheetIs}
@@ -10,14 +8,11 @@ use Rattle.rules.proofs.OfStands.{by_parts}
 use Rattle.rules.proofs.OfLed.{blank_is, opening_led}
 use Rattle.rules.proofs.sheet.Sheet.open.Goals as goal
 
-pub with_names-requires : goal.with_names-requires
-with_names-requires c = let o = c.in-Some.ensures in subst Fit (sym o.0) o.1
-
 pub returns-in-Some : goal.returns-in-Some
 returns-in-Some c =
     let o = c.in-Some.ensures in
     let right = fit_text c.args.text.now o.1 in
-    let st : Stands c.with_names.result (names_of c.args.text.now) [] = subst (λ (ns : List Text). Stands c.with_names.result ns []) o.0 c.with_names.ensures in
+    let st : Stands c.with_names.result (names_of c.args.text.now) [] = c.with_names.ensures (names_of c.args.text.now) o.0 o.1 in
     let opens : SheetIs (names_of c.args.text.now) [] c.with_names.result = blank_is c.with_names.result _ (by_parts c.with_names.result _ [] st) in
     record { answer = right; opens = (right, st); is = opens; led = opening_led c.args.self.now c.with_names.result c.args.text.now (Ok tt) right opens }
 

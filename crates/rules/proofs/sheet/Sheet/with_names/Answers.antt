@@ -1,6 +1,6 @@
 use Rattle.std.proofs.Common.{[], refl, arith}
-use Rattle.rules.proofs.OfStands.{of_parts}
-use Rattle.rules.proofs.OfModel.{stands_blank}
+use mathlib.Core.Logic.{∥∥₁_map}
+use Rattle.rules.proofs.OfModel.{stands_blank, stands_named}
 use Rattle.rules.proofs.sheet.Sheet.with_names.Goals as goal
 
 pub invariant_of-result : goal.invariant_of-result
@@ -9,8 +9,8 @@ invariant_of-result c = record {
   few = omega arith;
   rooted = λ i h. absurd (omega arith);
   kept = λ i h. absurd (omega arith);
-  stands = ∣ (_, [], [], stands_blank _ _ _ _ _ c.requires c.blank.ensures refl, tt) ∣₁;
+  stands = ∥∥₁_map c.args.names.fit (λ f. (_, [], [], stands_blank _ _ _ _ _ f c.blank.ensures refl, tt));
 }
 
 pub returns : goal.returns
-returns c = of_parts _ _ _ (stands_blank _ _ _ _ _ c.requires c.blank.ensures refl)
+returns c = λ ns e f. stands_named _ ns e f c.blank.ensures refl
