@@ -1,6 +1,8 @@
 -- Marks, a node at a time. Assumes nothing.
-use Rattle.std.proofs.Common.{◌≡◌, ℕ, zero, suc, ◌+◌, ◌-◌, ◌<◌, ◌≤◌, Bool, true, false, cond, ltb, ◌≢◌, ◌⊎◌, List, [], ◌∷◌, length, get_or, take, set, replicate, sym, refl, ap, ◌∙◌, subst, inl, inr, ⊎_elim, true≢false, arith, length-set, get_or-set_other, get_or-set_same, below_more}
+use Rattle.std.proofs.Common.{◌≡◌, ℕ, zero, suc, ◌+◌, ◌<◌, ◌≤◌, Bool, true, false, cond, ltb, ◌⊎◌, List, [], ◌∷◌, ◌++◌, length, get_or, take, set, replicate, sym, refl, ap, ◌∙◌, subst, inl, inr, ⊎_elim, true≢false, append_assoc, append-nil, arith, length-append, length-take, get_or-take, length-set, get_or-set_other, get_or-set_same, below_more}
 use mathlib.Core.Bool.{false≢true}
+use Rattle.std.proofs.Math.Seq.{get_or-append_seam}
+use Rattle.std.proofs.lemmas.List.{get_or_append_left}
 use Rattle.std.proofs.lemmas.Bool.{cases_eq, cases_lt, lt-ltb, le-ltb}
 use Rattle.formulas.specs.declared.node.Node.{Node}
 use Rattle.formulas.specs.declared.node.Node.TheVariants.{True, False, Signal, And, Or, Next, Until, Release}
@@ -142,12 +144,10 @@ marking_start ns r zs ordered l size none =
     }
 
 module _ (ns : List Node) (r : ℕ) (ordered : Topological ns) where
-  pub marking_on : (j : ℕ) (us fs : List Bool) → 0 < j → j ≤ length ns → get_or us (j - 1) false ≡ true
-      → Marking ns r j us fs → Marking ns r (j - 1) (mark_parts us (get_or ns (j - 1) True)) (mark_kept (j - 1) fs (get_or ns (j - 1) True))
-  marking_on j us fs pos l on m =
-      let k = j - 1 in
+  pub marking_on : (k : ℕ) (us fs : List Bool) → k < length ns → get_or us k false ≡ true
+      → Marking ns r (k + 1) us fs → Marking ns r k (mark_parts us (get_or ns k True)) (mark_kept k fs (get_or ns k True))
+  marking_on k us fs kn on m =
       let n = get_or ns k True in
-      let kn : k < length ns = omega arith in
       let ku : k < length us = omega (arith, m.us_size, ordered.few) in
       let kf : k < length fs = omega (arith, m.fs_size, ordered.few) in
       let p = ordered.placed k kn in
@@ -170,9 +170,9 @@ module _ (ns : List Node) (r : ℕ) (ordered : Topological ns) where
             (λ d. kept_old fs k kf n p c (m.fs_done i (omega arith) (old i h x) c q)) (cases_eq i k);
       }
 
-  pub marking_off : (j : ℕ) (us fs : List Bool) → 0 < j → get_or us (j - 1) false ≡ false → Marking ns r j us fs → Marking ns r (j - 1) us fs
-  marking_off j us fs pos off m =
-      let no_mark : (i : ℕ) → i ≡ j - 1 → get_or us i false ≡ true → ⊥ = λ i e x. true≢false (sym x ∙ ap (λ (z : ℕ). get_or us z false) e ∙ off) in
+  pub marking_off : (k : ℕ) (us fs : List Bool) → get_or us k false ≡ false → Marking ns r (k + 1) us fs → Marking ns r k us fs
+  marking_off k us fs off m =
+      let no_mark : (i : ℕ) → i ≡ k → get_or us i false ≡ true → ⊥ = λ i e x. true≢false (sym x ∙ ap (λ (z : ℕ). get_or us z false) e ∙ off) in
       record {
         us_size = m.us_size;
         fs_size = m.fs_size;
@@ -180,8 +180,8 @@ module _ (ns : List Node) (r : ℕ) (ordered : Topological ns) where
         fs_root = m.fs_root;
         us_right = m.us_right;
         fs_right = m.fs_right;
-        us_done = λ i h x c q. ⊎_elim (λ e. absurd (no_mark i e x)) (λ d. m.us_done i (omega arith) x c q) (cases_eq i (j - 1));
-        fs_done = λ i h x c q. ⊎_elim (λ e. absurd (no_mark i e x)) (λ d. m.fs_done i (omega arith) x c q) (cases_eq i (j - 1));
+        us_done = λ i h x c q. ⊎_elim (λ e. absurd (no_mark i e x)) (λ d. m.us_done i (omega arith) x c q) (cases_eq i k);
+        fs_done = λ i h x c q. ⊎_elim (λ e. absurd (no_mark i e x)) (λ d. m.fs_done i (omega arith) x c q) (cases_eq i k);
       }
 
   module _ (us fs : List Bool) (m : Marking ns r 0 us fs) where
@@ -196,82 +196,127 @@ module _ (ns : List Node) (r : ℕ) (ordered : Topological ns) where
     pub marked : Marked ns r fs
     marked = record { right = m.fs_right; whole = λ c h. all_kept h }
 
+-- the marks are whole for the nodes that follow `rest`, which are counted from 0 on
+pub record Behind (ns : List Node) (r count : ℕ) (rest : List Node) (us fs : List Bool) : Type 0 where
+  pub after : List Node
+  pub are : ns ≡ rest ++ after
+  pub from : count ≡ 0
+  pub marking : Marking ns r (length rest) us fs
+
+pub behind_start : {ns : List Node} {r count : ℕ} {rest : List Node} {us fs : List Bool} → rest ≡ ns → count ≡ 0 → Marking ns r (length ns) us fs → Behind ns r count rest us fs
+behind_start {ns} {r} {count} {rest} {us} {fs} e z m = record {
+  after = [];
+  are = sym e ∙ sym (append-nil rest);
+  from = z;
+  marking = subst (λ (xs : List Node). Marking ns r (length xs) us fs) (sym e) m;
+}
+
+pub behind_done : {ns : List Node} {r count : ℕ} {rest : List Node} {us fs : List Bool} → Topological ns → Behind ns r count rest us fs → length rest ≡ 0 → Marked ns r fs
+behind_done {ns} {r} {us = us} {fs} ordered b z = marked ns r ordered us fs (subst (λ (j : ℕ). Marking ns r j us fs) z b.marking)
+
+module _ {ns : List Node} {r count : ℕ} {rest : List Node} {us fs : List Bool} (front : List Node) (n : Node) (last : rest ≡ front ++ n ∷ []) (b : Behind ns r count rest us fs) where
+  parted : ns ≡ front ++ n ∷ b.after
+  parted = b.are ∙ ap (λ (xs : List Node). xs ++ b.after) last ∙ append_assoc front (n ∷ []) b.after
+
+  -- the last of the rest is the node whose number is the length of what stands before it
+  pub last_at : (k : ℕ) → k ≡ count + length front → (k < length ns) × (get_or ns k True ≡ n)
+  last_at k e =
+      let z : k ≡ length front = omega (arith, b.from) in (
+        omega (arith, z, ap length parted, length-append front (n ∷ b.after)),
+        ap (λ (i : ℕ). get_or ns i True) z ∙ ap (λ (xs : List Node). get_or xs (length front) True) parted ∙ get_or-append_seam front n b.after True,
+      )
+
+  pub last_placed : Topological ns → (k : ℕ) → k ≡ count + length front → Placed k n
+  last_placed ordered k e = let h = last_at k e in subst (Placed k) h.1 (ordered.placed k h.0)
+
+  behind : (k from : ℕ) → k ≡ count + length front → from ≡ count → (vs gs : List Bool) → Marking ns r k vs gs → Behind ns r from front vs gs
+  behind k from e f vs gs m = let z : k ≡ length front = omega (arith, b.from) in record {
+    after = n ∷ b.after;
+    are = parted;
+    from = f ∙ b.from;
+    marking = subst (λ (j : ℕ). Marking ns r j vs gs) z m;
+  }
+
+  before_last : (k : ℕ) → k ≡ count + length front → Marking ns r (k + 1) us fs
+  before_last k e =
+      let z : length rest ≡ k + 1 = omega (arith, b.from, ap length last, length-append front (n ∷ [])) in
+      subst (λ (j : ℕ). Marking ns r j us fs) z b.marking
+
+  pub behind_on : Topological ns → (k from : ℕ) → k ≡ count + length front → from ≡ count → get_or us k false ≡ true → Behind ns r from front (mark_parts us n) (mark_kept k fs n)
+  behind_on ordered k from e f on =
+      let h = last_at k e in
+      behind k from e f (mark_parts us n) (mark_kept k fs n) (subst (λ (x : Node). Marking ns r k (mark_parts us x) (mark_kept k fs x)) h.1 (marking_on ns r ordered k us fs h.0 on (before_last k e)))
+
+  pub behind_off : Topological ns → (k from : ℕ) → k ≡ count + length front → from ≡ count → get_or us k false ≡ false → Behind ns r from front us fs
+  behind_off ordered k from e f off = behind k from e f us fs (marking_off ns r ordered k us fs off (before_last k e))
+
 -- ---- picking
 
-pub picked_none : (fs : List Bool) (xs : List ℕ) → Picked fs 0 xs 0
-picked_none fs xs = record
+pub picked_none : (fs : List Bool) → Picked fs 0 []
+picked_none fs = record
     { few = omega arith; below = λ j l. absurd (omega arith); rising = λ i j h l. absurd (omega arith); are = λ j l. absurd (omega arith); all = λ k l. absurd (omega arith) }
 
-pub picked_skip : (fs : List Bool) (n : ℕ) (xs : List ℕ) (m : ℕ) → get_or fs n false ≡ false → Picked fs n xs m → Picked fs (n + 1) xs m
-picked_skip fs n xs m off p = record {
+-- a flag among the first is the flag itself
+of_front : (m : ℕ) (fs : List Bool) (n : ℕ) (b : Bool) → n < length (take m fs) → get_or (take m fs) n false ≡ b → get_or fs n false ≡ b
+of_front m fs n b l on = sym (get_or-take m fs n false (omega (arith, length-take m fs))) ∙ on
+
+pub picked_skip : (m : ℕ) (fs : List Bool) (n : ℕ) (xs : List ℕ) → n < length (take m fs) → get_or (take m fs) n false ≡ false → Picked fs n xs → Picked fs (n + 1) xs
+picked_skip m fs n xs l off p = record {
   few = p.few;
   below = λ j l. omega (arith, p.below j l);
   rising = p.rising;
   are = p.are;
-  all = below_more (λ k. get_or fs k false ≡ true → (j : ℕ) × (j < m) × (get_or xs j 0 ≡ k)) n p.all (λ h. absurd (true≢false (sym h ∙ off)));
+  all = below_more (λ k. get_or fs k false ≡ true → (j : ℕ) × (j < length xs) × (get_or xs j 0 ≡ k)) n p.all (λ h. absurd (true≢false (sym h ∙ of_front m fs n false l off)));
 }
 
-pub picked_more : (fs : List Bool) (n : ℕ) (xs : List ℕ) (m : ℕ) → m < 32 → length xs ≡ 32 → get_or fs n false ≡ true → Picked fs n xs m → Picked fs (n + 1) (set xs m n) (m + 1)
-picked_more fs n xs m l size on p =
-    let ml : m < length xs = omega arith in
-    let here : get_or (set xs m n) m 0 ≡ n = get_or-set_same xs m n 0 ml in
-    let old : (j : ℕ) → j < m → get_or (set xs m n) j 0 ≡ get_or xs j 0 = λ j h. let ne : j ≢ m = omega arith in get_or-set_other xs m j n 0 ne in
+pub picked_more : (front : ℕ) (fs : List Bool) (n : ℕ) (xs : List ℕ) → length xs < 32 → n < length (take front fs) → get_or (take front fs) n false ≡ true → Picked fs n xs → Picked fs (n + 1) (xs ++ n ∷ [])
+picked_more front fs n xs l nl flagged p =
+    let on = of_front front fs n true nl flagged in
+    let m = length xs in
+    let ys = xs ++ n ∷ [] in
+    let size : length ys ≡ m + 1 = simp length-append (omega arith) in
+    let here : get_or ys m 0 ≡ n = get_or-append_seam xs n [] 0 in
+    let old : (j : ℕ) → j < m → get_or ys j 0 ≡ get_or xs j 0 = λ j h. get_or_append_left xs (n ∷ []) 0 j h in
     record {
       few = omega arith;
-      below = below_more (λ j. get_or (set xs m n) j 0 < n + 1) m (λ j h. omega (arith, old j h, p.below j h)) (omega arith);
+      below = subst (λ (k : ℕ). (j : ℕ) → j < k → get_or ys j 0 < n + 1) (sym size) (below_more (λ j. get_or ys j 0 < n + 1) m (λ j h. omega (arith, old j h, p.below j h)) (omega arith));
       rising = λ i j h h2. ⊎_elim
           (λ jm. omega (arith, old i (omega arith), old j jm, p.rising i j h jm))
           (λ jm. let e : j ≡ m = omega arith in
-          let ej : get_or (set xs m n) j 0 ≡ n = ap (λ (z : ℕ). get_or (set xs m n) z 0) e ∙ here in
+          let ej : get_or ys j 0 ≡ n = ap (λ (z : ℕ). get_or ys z 0) e ∙ here in
           omega (arith, ej, old i (omega arith), p.below i (omega arith)))
           (cases_lt j m);
-      are = below_more (λ j. get_or fs (get_or (set xs m n) j 0) false ≡ true) m
-          (λ j h. ap (λ (z : ℕ). get_or fs z false) (old j h) ∙ p.are j h) (ap (λ (z : ℕ). get_or fs z false) here ∙ on);
-      all = below_more (λ k. get_or fs k false ≡ true → (j : ℕ) × (j < m + 1) × (get_or (set xs m n) j 0 ≡ k)) n
+      are = subst (λ (k : ℕ). (j : ℕ) → j < k → get_or fs (get_or ys j 0) false ≡ true) (sym size) (below_more (λ j. get_or fs (get_or ys j 0) false ≡ true) m
+          (λ j h. ap (λ (z : ℕ). get_or fs z false) (old j h) ∙ p.are j h) (ap (λ (z : ℕ). get_or fs z false) here ∙ on));
+      all = below_more (λ k. get_or fs k false ≡ true → (j : ℕ) × (j < length ys) × (get_or ys j 0 ≡ k)) n
           (λ k h q. let t = p.all k h q in (t.0, omega (arith, t.1), old t.0 t.1 ∙ t.2))
           (λ q. (m, omega arith, here));
     }
 
-pub beyond : (fs : List Bool) (n : ℕ) (xs : List ℕ) → get_or fs n false ≡ true → Picked fs n xs 32 → Beyond fs
-beyond fs n xs on p =
+pub beyond : (front : ℕ) (fs : List Bool) (n : ℕ) (xs : List ℕ) → length xs ≡ 32 → n < length (take front fs) → get_or (take front fs) n false ≡ true → Picked fs n xs → Beyond fs
+beyond front fs n xs full nl flagged p =
+    let on = of_front front fs n true nl flagged in
     let g : ℕ → ℕ = λ i. cond (ltb i 32) (get_or xs i 0) n in
     let low : (i : ℕ) → i < 32 → g i ≡ get_or xs i 0 = λ i l. ap (λ b. cond b (get_or xs i 0) n) (lt-ltb i 32 l) in
     let high : (i : ℕ) → 32 ≤ i → g i ≡ n = λ i l. ap (λ b. cond b (get_or xs i 0) n) (le-ltb i 32 l) in
     record {
       number = g;
       rising = λ i j h l. ⊎_elim
-          (λ jl. subst (λ (z : ℕ). z < g j) (sym (low i (omega arith))) (subst (λ (z : ℕ). get_or xs i 0 < z) (sym (low j jl)) (p.rising i j h jl)))
+          (λ jl. subst (λ (z : ℕ). z < g j) (sym (low i (omega arith))) (subst (λ (z : ℕ). get_or xs i 0 < z) (sym (low j jl)) (p.rising i j h (omega arith))))
           (λ jl. subst (λ (z : ℕ). z < g j) (sym (low i (omega arith))) (subst (λ (z : ℕ). get_or xs i 0 < z) (sym (high j jl)) (p.below i (omega arith))))
           (cases_lt j 32);
       are = λ j l. ⊎_elim
-          (λ jl. ap (λ (z : ℕ). get_or fs z false) (low j jl) ∙ p.are j jl)
+          (λ jl. ap (λ (z : ℕ). get_or fs z false) (low j jl) ∙ p.are j (omega arith))
           (λ jl. ap (λ (z : ℕ). get_or fs z false) (high j jl) ∙ on) (cases_lt j 32);
     }
 
-take_at : (m : ℕ) (xs : List ℕ) (j : ℕ) → j < m → get_or (take m xs) j 0 ≡ get_or xs j 0
-take_at zero xs j l = absurd (omega arith)
-take_at (suc m) [] j l = refl
-take_at (suc m) (x ∷ xs) zero l = refl
-take_at (suc m) (x ∷ xs) (suc j) l = take_at m xs j (omega arith)
-
-take_size : (m : ℕ) (xs : List ℕ) → m ≤ length xs → length (take m xs) ≡ m
-take_size zero xs l = refl
-take_size (suc m) [] l = absurd (omega arith)
-take_size (suc m) (x ∷ xs) l = ap suc (take_size m xs (omega arith))
-
-pub keeps_picked : (ns : List Node) (r : ℕ) (fs : List Bool) (xs : List ℕ) (m : ℕ) → Topological ns → r < length ns → length xs ≡ 32
-    → Marked ns r fs → Picked fs (length ns) xs m → Keeps ns r (take m xs) × (length (take m xs) ≡ m)
-keeps_picked ns r fs xs m ordered l size mk p =
-    let s : length (take m xs) ≡ m = take_size m xs (omega (arith, p.few)) in
-    let e : (j : ℕ) → j < m → get_or (take m xs) j 0 ≡ get_or xs j 0 = take_at m xs in (
-      record {
-        below = λ j h. omega (arith, e j (omega arith), p.below j (omega arith));
-        rising = λ i j h q. omega (arith, e i (omega arith), e j (omega arith), p.rising i j h (omega arith));
-        are = λ j h. subst (KeptNode ns r) (sym (e j (omega arith))) (mk.right (get_or xs j 0) (p.are j (omega arith)));
-        all = λ k h. let t = p.all k (kept_below ns ordered r l h) (mk.whole k h) in (t.0, omega (arith, t.1), e t.0 t.1 ∙ t.2);
-      },
-      s,
-    )
+pub keeps_picked : (ns : List Node) (r : ℕ) (fs : List Bool) (xs : List ℕ) → Topological ns → r < length ns → Marked ns r fs → Picked fs (length ns) xs → Keeps ns r xs
+keeps_picked ns r fs xs ordered l mk p = record {
+  below = p.below;
+  rising = p.rising;
+  are = λ j h. mk.right (get_or xs j 0) (p.are j h);
+  all = λ k h. p.all k (kept_below ns ordered r l h) (mk.whole k h);
+}
 
 pub many_picked : (ns : List Node) (r : ℕ) (fs : List Bool) → Marked ns r fs → Beyond fs → ManyKept ns r
 many_picked ns r fs m b = record { number = b.number; rising = b.rising; are = λ j l. m.right (b.number j) (b.are j l) }

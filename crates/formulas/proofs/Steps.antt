@@ -1,5 +1,5 @@
 -- One node, one bit. Assumes nothing.
-use Rattle.std.proofs.Common.{◌≡◌, ℕ, zero, suc, ◌+◌, ◌-◌, ◌*◌, ◌^◌, ◌<◌, ◌≤◌, Bool, true, false, cond, ◌&&◌, ◌||◌, List, [], ◌∷◌, map, length, get_or, drop, set, sym, refl, ap, ◌∙◌, subst, ap₂, inl, inr, ⊎_elim, arith, length-drop, length-set, drop-cons, get_or-set_other, get_or-set_same, pow_mono}
+use Rattle.std.proofs.Common.{◌≡◌, ℕ, zero, suc, ◌+◌, ◌*◌, ◌^◌, ◌<◌, ◌≤◌, Bool, true, false, cond, ◌&&◌, ◌||◌, List, [], ◌∷◌, ◌++◌, map, length, get_or, set, sym, refl, ap, ◌∙◌, subst, ap₂, inl, inr, ⊎_elim, append_assoc, arith, length-append, length-set, get_or-set_other, get_or-set_same, pow_mono}
 use mathlib.Core.Logic.{∥∥₁_elim}
 use native.Mathlib.Nat.{ℕ_set}
 use mir.Val.{bool_byte}
@@ -131,10 +131,11 @@ label_step ns ms xs ys p q ordered r l keeps s old new was holds sp v e = record
       ∙ ∥∥₁_elim keeps (ℕ_set _ _) (λ k. (before_is ns ordered r l xs k s old was holds sp2 v2).is w h);
 }
 
--- one bit more in front
-pub mask_more : (xs : List ℕ) (h : List Bool) (j : ℕ) → j < length xs
-    → mask (map (λ k. get_or h k false) (drop j xs)) ≡ cond (get_or h (get_or xs j 0) false) 1 0 + 2 * mask (map (λ k. get_or h k false) (drop (suc j) xs))
-mask_more xs h j l = ap (λ ys. mask (map (λ k. get_or h k false) ys)) (drop-cons xs j 0 l)
+-- the label of what follows `rest` in xs
+pub record Gathered (xs : List ℕ) (h : List Bool) (rest : List ℕ) (lab : ℕ) : Type 0 where
+  pub after : List ℕ
+  pub are : xs ≡ rest ++ after
+  pub is : lab ≡ mask (map (λ k. get_or h k false) after)
 
 one_bit : (b : Bool) → bool_byte b ≡ cond b 1 0
 one_bit true = refl
@@ -144,21 +145,26 @@ pub bit_small : (b : Bool) → bool_byte b ≤ 1
 bit_small true = omega arith
 bit_small false = omega arith
 
-pub gather_more : (xs : List ℕ) (h : List Bool) (j lab : ℕ) → 0 < j → j ≤ length xs → lab ≡ mask (map (λ k. get_or h k false) (drop j xs))
-    → lab * 2 + bool_byte (get_or h (get_or xs (j - 1) 0) false) ≡ mask (map (λ k. get_or h k false) (drop (j - 1) xs))
-gather_more xs h j lab pos l e =
-    let i = j - 1 in
-    let s : suc i ≡ j = omega arith in
-    let il : i < length xs = omega arith in
-    let m = mask_more xs h i il in
-    let e2 : lab ≡ mask (map (λ k. get_or h k false) (drop (suc i) xs)) = e ∙ ap (λ (q : ℕ). mask (map (λ k. get_or h k false) (drop q xs))) (sym s) in
-    let b = one_bit (get_or h (get_or xs i 0) false) in
-    omega (arith, m, e2, b)
+-- one bit more in front
+pub gather_more : {xs : List ℕ} {h : List Bool} {rest : List ℕ} {lab : ℕ} (front : List ℕ) (x : ℕ) → rest ≡ front ++ x ∷ []
+    → Gathered xs h rest lab → Gathered xs h front (lab * 2 + bool_byte (get_or h x false))
+gather_more {xs} {h} {rest} {lab} front x e g = record {
+  after = x ∷ g.after;
+  are = g.are ∙ ap (λ (ys : List ℕ). ys ++ g.after) e ∙ append_assoc front (x ∷ []) g.after;
+  is = omega (arith, g.is, one_bit (get_or h x false));
+}
 
-pub gather_fits : (xs : List ℕ) (h : List Bool) (j lab : ℕ) → 0 < j → length xs ≤ 32 → lab ≡ mask (map (λ k. get_or h k false) (drop j xs)) → lab < 2147483648
-gather_fits xs h j lab pos l e =
-    let bs = map (λ k. get_or h k false) (drop j xs) in
+pub gather_fits : {xs : List ℕ} {h : List Bool} {rest : List ℕ} {lab : ℕ} (front : List ℕ) (x : ℕ) → rest ≡ front ++ x ∷ []
+    → length xs ≤ 32 → Gathered xs h rest lab → lab < 2147483648
+gather_fits {xs} {h} {rest} {lab} front x e l g =
+    let bs = map (λ k. get_or h k false) g.after in
     let s = (masks_are_right bs).small in
-    let n : length bs ≡ length xs - j = map_length (λ k. get_or h k false) (drop j xs) ∙ length-drop j xs in
+    let n : length bs ≡ length g.after = map_length (λ k. get_or h k false) g.after in
+    let m : length xs ≡ length rest + length g.after = ap length g.are ∙ length-append rest g.after in
+    let r : length rest ≡ length front + 1 = ap length e ∙ length-append front (x ∷ []) in
     let p : 2 ^ length bs ≤ 2 ^ 31 = pow_mono {i = length bs} {j = 31} (omega arith) in
-    omega (arith, s, p, e)
+    omega (arith, s, p, g.is)
+
+pub gather_all : {xs : List ℕ} {h : List Bool} {rest : List ℕ} {lab : ℕ} → Gathered xs h rest lab → length rest ≡ 0 → lab ≡ mask (map (λ k. get_or h k false) xs)
+gather_all {xs} {h} {rest = []} g e = g.is ∙ ap (λ (ys : List ℕ). mask (map (λ k. get_or h k false) ys)) (sym g.are)
+gather_all {xs} {h} {rest = x ∷ rest} g e = absurd (omega arith)

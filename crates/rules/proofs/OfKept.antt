@@ -1,8 +1,10 @@
 -- Stored nodes as a list of formulas in order, and how many are kept of one.
-use Rattle.std.proofs.Common.{◌≡◌, ℕ, zero, suc, ◌-◌, ◌<◌, ◌≤◌, List, length, get_or, take, Some, None, Option, sym, refl, ap, ◌∙◌, subst, ap₂, arith, length-take, length-take-le, get_or-take, MatchOption}
+use Rattle.std.proofs.Common.{◌≡◌, ℕ, zero, suc, ◌-◌, ◌<◌, ◌≤◌, List, length, get_or, take, Some, None, Option, sym, refl, ap, ◌∙◌, subst, ap₂, arith, length-take-le, get_or-take, MatchOption}
 use mathlib.Core.Logic.{∥∥₁_elim, ∥∥₁_map}
 use mathlib.Core.HLevel.{⊥_prop}
 use native.Mathlib.Bridge.{le_prop}
+use Rattle.fixed.specs.Held.{held}
+use Rattle.fixed.proofs.Held.{held_fits}
 use Rattle.logic.specs.Formula.{Formula, tru, next, and, or, until, release}
 use Rattle.logic.specs.Labels.{kept}
 use Rattle.formulas.specs.declared.node.Node.{Node}
@@ -13,7 +15,6 @@ use Rattle.formulas.specs.Keeps.{Part, Under, top, down, KeepsAt, KeptNode, root
 use Rattle.formulas.specs.Marks.{ManyKept, Different}
 use Rattle.formulas.proofs.Formulas.{made, formula_at}
 use Rattle.formulas.proofs.Kept.{part_below}
-use Rattle.formulas.proofs.Parts.{part_is}
 use Rattle.formulas.proofs.Placed.{topological}
 use Rattle.formulas.proofs.Differ.{many_kept, few_kept, not_many}
 use Rattle.rules.specs.Nodes.{OperandsBefore, SignalsBelowEight, Means, Longer}
@@ -75,8 +76,11 @@ not_over nodes count k few many = ∥∥₁_elim few ⊥_prop (λ x. not_many (t
 
 -- ---- the breach formula that is made of them
 
+part_is : (n : ℕ) (xs : List Node) → take (n - 0) xs ≡ take n xs
+part_is n xs = ap (λ (k : ℕ). take k xs) (omega arith)
+
 pub breach_at : (nodes : List Node) (count k : ℕ) (r : Option BreachFormula) → Topological (take count nodes) → k < length (take count nodes)
-    → MatchOption r (Topological (take (count - 0) nodes) → k < length (take (count - 0) nodes) → ManyKept (take (count - 0) nodes) k) (λ b. (take b.len b.nodes ≡ take (count - 0) nodes) × (b.root ≡ k))
+    → MatchOption r (Topological (take (count - 0) nodes) → k < length (take (count - 0) nodes) → ManyKept (take (count - 0) nodes) k) (λ b. (held b.nodes ≡ take (count - 0) nodes) × (b.root ≡ k))
     → MatchOption r (ManyKept (take count nodes) k) (BreachAt nodes count k)
 breach_at nodes count k None t h c = subst (λ (ns : List Node). Topological ns → k < length ns → ManyKept ns k) (part_is count nodes) c t h
 breach_at nodes count k (Some b) t h c =
@@ -84,11 +88,8 @@ breach_at nodes count k (Some b) t h c =
     record {
       nodes_are = e;
       root_is = c.1;
-      few = ∥∥₁_map b.keeps (λ x. (take b.count b.kept, subst (λ (r : ℕ). Keeps (take count nodes) r (take b.count b.kept)) c.1 (subst (λ (ns : List Node). Keeps ns b.root (take b.count b.kept)) e x), few_of b));
+      few = ∥∥₁_map b.keeps (λ x. (held b.kept, subst (λ (r : ℕ). Keeps (take count nodes) r (held b.kept)) c.1 (subst (λ (ns : List Node). Keeps ns b.root (held b.kept)) e x), held_fits b.kept));
     }
-  where
-    few_of : (b : BreachFormula) → length (take b.count b.kept) ≤ 32
-    few_of b = let f = b.few in let l = length-take b.count b.kept in omega arith
 
 -- ---- what is kept stays when nodes are added
 
