@@ -11,12 +11,7 @@ use formulas::node::Node;
 fn find(nodes: &[Node], node: Node) -> Option<usize>
     ensures { MatchOption result (Lacks nodes.now node) (Finds nodes.now node) }
 {
-    for (i, x) in nodes.iter().enumerate() {
-        if *x == node {
-            return Some(i);
-        }
-    }
-    None
+    nodes.iter().position(|stored| *stored == node)
 }
 
 impl Store {
