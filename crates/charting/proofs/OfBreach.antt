@@ -1,6 +1,7 @@
 -- The formula and the kept formulas of a breach formula that is made of nodes. Assumes nothing.
 use Rattle.std.proofs.Common.{◌≡◌, ℕ, ◌<◌, ◌≤◌, List, length, get_or, ap, ◌∙◌, arith}
 use mathlib.Core.Logic.{∥∥₁_elim, ∥∥₁_prop}
+use Rattle.std.proofs.lemmas.List.{length-map}
 use Rattle.logic.specs.Formula.{on}
 use Rattle.logic.specs.Sat.{sat}
 use Rattle.logic.specs.Labels.{ListsKept, label}
@@ -11,13 +12,13 @@ use Rattle.formulas.specs.Nodes.{formula}
 use Rattle.formulas.specs.declared.breach.BreachFormula.{BreachFormula}
 use Rattle.formulas.proofs.Kept.{lists_kept}
 use Rattle.formulas.proofs.Placed.{topological}
-use Rattle.formulas.proofs.Steps.{label_bit, map_length}
+use Rattle.formulas.proofs.Steps.{label_bit}
 use Rattle.rules.specs.Kept.{formula_of}
 use Rattle.charting.specs.Breaches.{kept_of}
 
 module _ (b : BreachFormula) where
   pub few_kept : length (kept_of b) ≤ 32
-  few_kept = omega (arith, map_length (formula (held b.nodes)) (held b.kept), held_fits b.kept)
+  few_kept = omega (arith, length-map (held b.kept) (formula (held b.nodes)), held_fits b.kept)
 
   pub kept_listed : ListsKept (formula_of b) (kept_of b)
   kept_listed g =

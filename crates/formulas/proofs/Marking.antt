@@ -1,11 +1,10 @@
 -- Marks, a node at a time. Assumes nothing.
-use Rattle.std.proofs.Common.{◌≡◌, ℕ, zero, suc, ◌+◌, ◌<◌, ◌≤◌, Bool, true, false, cond, ltb, ◌⊎◌, List, [], ◌∷◌, ◌++◌, length, get_or, take, set, replicate, sym, refl, ap, ◌∙◌, subst, inl, inr, ⊎_elim, true≢false, append_assoc, append-nil, arith, length-append, length-take, get_or-take, length-set, get_or-set_other, get_or-set_same, below_more}
+use Rattle.std.proofs.Common.{◌≡◌, ℕ, zero, suc, ◌+◌, ◌<◌, ◌≤◌, Bool, true, false, cond, ltb, ◌⊎◌, List, [], ◌∷◌, ◌++◌, length, get_or, take, set, replicate, sym, refl, ap, ◌∙◌, subst, inl, ⊎_elim, append-nil, arith, length-append, length-set, get_or-set_other, below_more}
 use mathlib.Core.Bool.{false≢true}
-use Rattle.std.proofs.Math.Seq.{get_or-append_seam}
-use Rattle.std.proofs.lemmas.List.{get_or_append_left}
+use Rattle.std.proofs.lemmas.Grind.{common_steps}
 use Rattle.std.proofs.lemmas.Bool.{cases_eq, cases_lt, lt-ltb, le-ltb}
 use Rattle.formulas.specs.declared.node.Node.{Node}
-use Rattle.formulas.specs.declared.node.Node.TheVariants.{True, False, Signal, And, Or, Next, Until, Release}
+use Rattle.formulas.specs.declared.node.Node.TheVariants.{True, And, Or, Next, Until, Release}
 use Rattle.formulas.specs.Nodes.{Placed, Topological}
 use Rattle.formulas.specs.Keeps.{Part, Under, top, down, KeepsAt, KeptNode, root, at, Keeps}
 use Rattle.formulas.specs.Marks.{mark_parts, mark_kept, Marking, Marked, Picked, Beyond, ManyKept}
@@ -14,27 +13,24 @@ use Rattle.formulas.proofs.Kept.{part_below, kept_below}
 -- ---- one mark
 
 of_set : (us : List Bool) (a c : ℕ) → get_or (set us a true) c false ≡ true → (get_or us c false ≡ true) ⊎ (c ≡ a)
-of_set us a c h = ⊎_elim (λ e. inr e) (λ n. inl (sym (get_or-set_other us a c true false n) ∙ h)) (cases_eq c a)
+of_set us a c h = grind (arith, get_or-set_other)
 
 set_old : (us : List Bool) (a c : ℕ) → a < length us → get_or us c false ≡ true → get_or (set us a true) c false ≡ true
-set_old us a c l h =
-    ⊎_elim (λ (e : c ≡ a). ap (λ (i : ℕ). get_or (set us a true) i false) e ∙ get_or-set_same us a true false l)
-    (λ n. get_or-set_other us a c true false n ∙ h) (cases_eq c a)
+set_old us a c l h = grind (arith, common_steps)
 
 set_new : (us : List Bool) (a c : ℕ) → a < length us → c ≡ a → get_or (set us a true) c false ≡ true
-set_new us a c l e = ap (λ (i : ℕ). get_or (set us a true) i false) e ∙ get_or-set_same us a true false l
+set_new us a c l e = grind (arith, common_steps)
 
 -- ---- two marks
 
 of_two : (us : List Bool) (a b c : ℕ) → get_or (set (set us a true) b true) c false ≡ true → (get_or us c false ≡ true) ⊎ ((c ≡ a) ⊎ (c ≡ b))
-of_two us a b c h = ⊎_elim (λ x. ⊎_elim (λ y. inl y) (λ y. inr (inl y)) (of_set us a c x)) (λ x. inr (inr x)) (of_set (set us a true) b c h)
+of_two us a b c h = grind (arith, get_or-set_other)
 
 two_old : (us : List Bool) (a b c : ℕ) → a < length us → b < length us → get_or us c false ≡ true → get_or (set (set us a true) b true) c false ≡ true
-two_old us a b c la lb h = set_old (set us a true) b c (simp length-set lb) (set_old us a c la h)
+two_old us a b c la lb h = grind (arith, common_steps)
 
 two_new : (us : List Bool) (a b c : ℕ) → a < length us → b < length us → (c ≡ a) ⊎ (c ≡ b) → get_or (set (set us a true) b true) c false ≡ true
-two_new us a b c la lb (inl e) = set_old (set us a true) b c (simp length-set lb) (set_new us a c la e)
-two_new us a b c la lb (inr e) = set_new (set us a true) b c (simp length-set lb) e
+two_new us a b c la lb e = grind (arith, common_steps)
 
 two_size : (us : List Bool) (a b : ℕ) → length (set (set us a true) b true) ≡ length us
 two_size us a b = simp length-set
@@ -45,85 +41,61 @@ one_size us a = simp length-set
 -- ---- the parts of a node
 
 parts_size : (us : List Bool) (n : Node) → length (mark_parts us n) ≡ length us
-parts_size us True = refl
-parts_size us False = refl
-parts_size us (Signal i p) = refl
 parts_size us (And a b) = two_size us a b
 parts_size us (Or a b) = two_size us a b
 parts_size us (Next a) = one_size us a
 parts_size us (Until a b) = two_size us a b
 parts_size us (Release a b) = two_size us a b
+parts_size us _ = refl
 
 of_parts : (us : List Bool) (n : Node) (c : ℕ) → get_or (mark_parts us n) c false ≡ true → (get_or us c false ≡ true) ⊎ Part n c
-of_parts us True c h = inl h
-of_parts us False c h = inl h
-of_parts us (Signal i p) c h = inl h
 of_parts us (And a b) c h = of_two us a b c h
 of_parts us (Or a b) c h = of_two us a b c h
 of_parts us (Next a) c h = of_set us a c h
 of_parts us (Until a b) c h = of_two us a b c h
 of_parts us (Release a b) c h = of_two us a b c h
+of_parts us _ c h = inl h
 
 module _ (us : List Bool) (k : ℕ) (kl : k < length us) where
   parts_old : (n : Node) → Placed k n → (c : ℕ) → get_or us c false ≡ true → get_or (mark_parts us n) c false ≡ true
-  parts_old True p c h = h
-  parts_old False p c h = h
-  parts_old (Signal i q) p c h = h
   parts_old (And a b) p c h = two_old us a b c (omega arith) (omega arith) h
   parts_old (Or a b) p c h = two_old us a b c (omega arith) (omega arith) h
   parts_old (Next a) p c h = set_old us a c (omega arith) h
   parts_old (Until a b) p c h = two_old us a b c (omega arith) (omega arith) h
   parts_old (Release a b) p c h = two_old us a b c (omega arith) (omega arith) h
+  parts_old _ p c h = h
 
   parts_new : (n : Node) → Placed k n → (c : ℕ) → Part n c → get_or (mark_parts us n) c false ≡ true
-  parts_new True p c h = absurd h
-  parts_new False p c h = absurd h
-  parts_new (Signal i q) p c h = absurd h
   parts_new (And a b) p c h = two_new us a b c (omega arith) (omega arith) h
   parts_new (Or a b) p c h = two_new us a b c (omega arith) (omega arith) h
   parts_new (Next a) p c h = set_new us a c (omega arith) h
   parts_new (Until a b) p c h = two_new us a b c (omega arith) (omega arith) h
   parts_new (Release a b) p c h = two_new us a b c (omega arith) (omega arith) h
+  parts_new _ p c h = absurd h
 
   kept_old : (n : Node) → Placed k n → (c : ℕ) → get_or us c false ≡ true → get_or (mark_kept k us n) c false ≡ true
-  kept_old True p c h = h
-  kept_old False p c h = h
-  kept_old (Signal i q) p c h = h
-  kept_old (And a b) p c h = h
-  kept_old (Or a b) p c h = h
   kept_old (Next a) p c h = two_old us k a c kl (omega arith) h
   kept_old (Until a b) p c h = set_old us k c kl h
   kept_old (Release a b) p c h = set_old us k c kl h
+  kept_old _ p c h = h
 
   kept_new : (n : Node) → Placed k n → (c : ℕ) → KeepsAt k n c → get_or (mark_kept k us n) c false ≡ true
-  kept_new True p c h = absurd h
-  kept_new False p c h = absurd h
-  kept_new (Signal i q) p c h = absurd h
-  kept_new (And a b) p c h = absurd h
-  kept_new (Or a b) p c h = absurd h
   kept_new (Next a) p c h = two_new us k a c kl (omega arith) h
   kept_new (Until a b) p c h = set_new us k c kl h
   kept_new (Release a b) p c h = set_new us k c kl h
+  kept_new _ p c h = absurd h
 
   kept_size : (n : Node) → length (mark_kept k us n) ≡ length us
-  kept_size True = refl
-  kept_size False = refl
-  kept_size (Signal i q) = refl
-  kept_size (And a b) = refl
-  kept_size (Or a b) = refl
   kept_size (Next a) = two_size us k a
   kept_size (Until a b) = one_size us k
   kept_size (Release a b) = one_size us k
+  kept_size _ = refl
 
   of_kept : (n : Node) (c : ℕ) → get_or (mark_kept k us n) c false ≡ true → (get_or us c false ≡ true) ⊎ KeepsAt k n c
-  of_kept True c h = inl h
-  of_kept False c h = inl h
-  of_kept (Signal i q) c h = inl h
-  of_kept (And a b) c h = inl h
-  of_kept (Or a b) c h = inl h
   of_kept (Next a) c h = of_two us k a c h
   of_kept (Until a b) c h = of_set us k c h
   of_kept (Release a b) c h = of_set us k c h
+  of_kept _ c h = inl h
 
 -- ---- the loop
 
@@ -171,18 +143,7 @@ module _ (ns : List Node) (r : ℕ) (ordered : Topological ns) where
       }
 
   pub marking_off : (k : ℕ) (us fs : List Bool) → get_or us k false ≡ false → Marking ns r (k + 1) us fs → Marking ns r k us fs
-  marking_off k us fs off m =
-      let no_mark : (i : ℕ) → i ≡ k → get_or us i false ≡ true → ⊥ = λ i e x. true≢false (sym x ∙ ap (λ (z : ℕ). get_or us z false) e ∙ off) in
-      record {
-        us_size = m.us_size;
-        fs_size = m.fs_size;
-        us_root = m.us_root;
-        fs_root = m.fs_root;
-        us_right = m.us_right;
-        fs_right = m.fs_right;
-        us_done = λ i h x c q. ⊎_elim (λ e. absurd (no_mark i e x)) (λ d. m.us_done i (omega arith) x c q) (cases_eq i k);
-        fs_done = λ i h x c q. ⊎_elim (λ e. absurd (no_mark i e x)) (λ d. m.fs_done i (omega arith) x c q) (cases_eq i k);
-      }
+  marking_off k us fs off m = grind (arith, common_steps, m.us_done, m.fs_done)
 
   module _ (us fs : List Bool) (m : Marking ns r 0 us fs) where
     all_under : {c : ℕ} → Under ns r c → get_or us c false ≡ true
@@ -216,15 +177,11 @@ behind_done {ns} {r} {us = us} {fs} ordered b z = marked ns r ordered us fs (sub
 
 module _ {ns : List Node} {r count : ℕ} {rest : List Node} {us fs : List Bool} (front : List Node) (n : Node) (last : rest ≡ front ++ n ∷ []) (b : Behind ns r count rest us fs) where
   parted : ns ≡ front ++ n ∷ b.after
-  parted = b.are ∙ ap (λ (xs : List Node). xs ++ b.after) last ∙ append_assoc front (n ∷ []) b.after
+  parted = let a = b.are in grind (arith, common_steps)
 
   -- the last of the rest is the node whose number is the length of what stands before it
   pub last_at : (k : ℕ) → k ≡ count + length front → (k < length ns) × (get_or ns k True ≡ n)
-  last_at k e =
-      let z : k ≡ length front = omega (arith, b.from) in (
-        omega (arith, z, ap length parted, length-append front (n ∷ b.after)),
-        ap (λ (i : ℕ). get_or ns i True) z ∙ ap (λ (xs : List Node). get_or xs (length front) True) parted ∙ get_or-append_seam front n b.after True,
-      )
+  last_at k e = let z = b.from in let a = parted in grind (arith, common_steps)
 
   pub last_placed : Topological ns → (k : ℕ) → k ≡ count + length front → Placed k n
   last_placed ordered k e = let h = last_at k e in subst (Placed k) h.1 (ordered.placed k h.0)
@@ -252,46 +209,39 @@ module _ {ns : List Node} {r count : ℕ} {rest : List Node} {us fs : List Bool}
 
 -- ---- picking
 
-pub picked_none : (fs : List Bool) → Picked fs 0 []
-picked_none fs = record
-    { few = omega arith; below = λ j l. absurd (omega arith); rising = λ i j h l. absurd (omega arith); are = λ j l. absurd (omega arith); all = λ k l. absurd (omega arith) }
+pub picked_skip : (m : ℕ) (fs : List Bool) (n : ℕ) (xs : List ℕ) → n < length (take m fs) → get_or (take m fs) n false ≡ false → Picked fs n xs → Picked fs (n + 1) xs
+picked_skip m fs n xs l off p = grind (arith, common_steps, p.all)
 
 -- a flag among the first is the flag itself
 of_front : (m : ℕ) (fs : List Bool) (n : ℕ) (b : Bool) → n < length (take m fs) → get_or (take m fs) n false ≡ b → get_or fs n false ≡ b
-of_front m fs n b l on = sym (get_or-take m fs n false (omega (arith, length-take m fs))) ∙ on
+of_front m fs n b l on = grind (arith, common_steps)
 
-pub picked_skip : (m : ℕ) (fs : List Bool) (n : ℕ) (xs : List ℕ) → n < length (take m fs) → get_or (take m fs) n false ≡ false → Picked fs n xs → Picked fs (n + 1) xs
-picked_skip m fs n xs l off p = record {
-  few = p.few;
-  below = λ j l. omega (arith, p.below j l);
-  rising = p.rising;
-  are = p.are;
-  all = below_more (λ k. get_or fs k false ≡ true → (j : ℕ) × (j < length xs) × (get_or xs j 0 ≡ k)) n p.all (λ h. absurd (true≢false (sym h ∙ of_front m fs n false l off)));
-}
+module _ {fs : List Bool} {n : ℕ} {xs : List ℕ} (p : Picked fs n xs) where
+  more_below : (j : ℕ) → j < length (xs ++ n ∷ []) → get_or (xs ++ n ∷ []) j 0 < n + 1
+  more_below j l = grind (arith, common_steps, p.below)
 
-pub picked_more : (front : ℕ) (fs : List Bool) (n : ℕ) (xs : List ℕ) → length xs < 32 → n < length (take front fs) → get_or (take front fs) n false ≡ true → Picked fs n xs → Picked fs (n + 1) (xs ++ n ∷ [])
-picked_more front fs n xs l nl flagged p =
-    let on = of_front front fs n true nl flagged in
-    let m = length xs in
-    let ys = xs ++ n ∷ [] in
-    let size : length ys ≡ m + 1 = simp length-append (omega arith) in
-    let here : get_or ys m 0 ≡ n = get_or-append_seam xs n [] 0 in
-    let old : (j : ℕ) → j < m → get_or ys j 0 ≡ get_or xs j 0 = λ j h. get_or_append_left xs (n ∷ []) 0 j h in
-    record {
-      few = omega arith;
-      below = subst (λ (k : ℕ). (j : ℕ) → j < k → get_or ys j 0 < n + 1) (sym size) (below_more (λ j. get_or ys j 0 < n + 1) m (λ j h. omega (arith, old j h, p.below j h)) (omega arith));
-      rising = λ i j h h2. ⊎_elim
-          (λ jm. omega (arith, old i (omega arith), old j jm, p.rising i j h jm))
-          (λ jm. let e : j ≡ m = omega arith in
-          let ej : get_or ys j 0 ≡ n = ap (λ (z : ℕ). get_or ys z 0) e ∙ here in
-          omega (arith, ej, old i (omega arith), p.below i (omega arith)))
-          (cases_lt j m);
-      are = subst (λ (k : ℕ). (j : ℕ) → j < k → get_or fs (get_or ys j 0) false ≡ true) (sym size) (below_more (λ j. get_or fs (get_or ys j 0) false ≡ true) m
-          (λ j h. ap (λ (z : ℕ). get_or fs z false) (old j h) ∙ p.are j h) (ap (λ (z : ℕ). get_or fs z false) here ∙ on));
-      all = below_more (λ k. get_or fs k false ≡ true → (j : ℕ) × (j < length ys) × (get_or ys j 0 ≡ k)) n
-          (λ k h q. let t = p.all k h q in (t.0, omega (arith, t.1), old t.0 t.1 ∙ t.2))
-          (λ q. (m, omega arith, here));
-    }
+  more_rising : (i j : ℕ) → i < j → j < length (xs ++ n ∷ []) → get_or (xs ++ n ∷ []) i 0 < get_or (xs ++ n ∷ []) j 0
+  more_rising i j l h = grind (arith, common_steps, p.below, p.rising)
+
+  more_are : get_or fs n false ≡ true → (j : ℕ) → j < length (xs ++ n ∷ []) → get_or fs (get_or (xs ++ n ∷ []) j 0) false ≡ true
+  more_are on j l = grind (arith, common_steps, p.are)
+
+  more_old : (j : ℕ) → j < length xs → (j < length (xs ++ n ∷ [])) × (get_or (xs ++ n ∷ []) j 0 ≡ get_or xs j 0)
+  more_old j l = grind (arith, common_steps)
+
+  more_last : (length xs < length (xs ++ n ∷ [])) × (get_or (xs ++ n ∷ []) (length xs) 0 ≡ n)
+  more_last = grind (arith, common_steps)
+
+  pub picked_more : (m : ℕ) → length xs < 32 → n < length (take m fs) → get_or (take m fs) n false ≡ true → Picked fs (n + 1) (xs ++ n ∷ [])
+  picked_more m l nl on = record {
+    few = simp length-append (omega arith);
+    below = more_below;
+    rising = more_rising;
+    are = more_are (of_front m fs n true nl on);
+    all = below_more (λ k. get_or fs k false ≡ true → (j : ℕ) × (j < length (xs ++ n ∷ [])) × (get_or (xs ++ n ∷ []) j 0 ≡ k)) n
+        (λ k h q. let t = p.all k h q in let o = more_old t.0 t.1 in (t.0, o.0, o.1 ∙ t.2))
+        (λ q. (length xs, more_last.0, more_last.1));
+  }
 
 pub beyond : (front : ℕ) (fs : List Bool) (n : ℕ) (xs : List ℕ) → length xs ≡ 32 → n < length (take front fs) → get_or (take front fs) n false ≡ true → Picked fs n xs → Beyond fs
 beyond front fs n xs full nl flagged p =

@@ -1,16 +1,18 @@
 -- One node, one bit. Assumes nothing.
-use Rattle.std.proofs.Common.{◌≡◌, ℕ, zero, suc, ◌+◌, ◌*◌, ◌^◌, ◌<◌, ◌≤◌, Bool, true, false, cond, ◌&&◌, ◌||◌, List, [], ◌∷◌, ◌++◌, map, length, get_or, set, sym, refl, ap, ◌∙◌, subst, ap₂, inl, inr, ⊎_elim, append_assoc, arith, length-append, length-set, get_or-set_other, get_or-set_same, pow_mono}
+use Rattle.std.proofs.Common.{◌≡◌, ℕ, suc, ◌+◌, ◌^◌, ◌<◌, ◌≤◌, Bool, true, false, ◌&&◌, ◌||◌, List, [], ◌∷◌, ◌++◌, map, length, get_or, set, sym, refl, ap, ◌∙◌, subst, ap₂, inl, inr, ⊎_elim, arith, length-append, length-set, get_or-set_other, get_or-set_same, pow_mono}
 use mathlib.Core.Logic.{∥∥₁_elim}
 use native.Mathlib.Nat.{ℕ_set}
 use mir.Val.{bool_byte}
 use Rattle.std.proofs.lemmas.Bool.{cases_eq}
+use Rattle.std.proofs.lemmas.List.{length-map, get_or-map}
+use Rattle.std.proofs.lemmas.Simd.{map-map}
 use Rattle.logic.specs.Formula.{Formula, on}
 use Rattle.logic.specs.Sat.{sat}
 use Rattle.logic.specs.Labels.{label}
 use Rattle.logic.specs.Masks.{mask}
 use Rattle.logic.proofs.Masks.{masks_are_right}
 use Rattle.formulas.specs.declared.node.Node.{Node}
-use Rattle.formulas.specs.declared.node.Node.TheVariants.{True, False, Signal, And, Or, Next, Until, Release}
+use Rattle.formulas.specs.declared.node.Node.TheVariants.{True, And, Or, Next, Until, Release}
 use Rattle.formulas.specs.Nodes.{formula, Topological}
 use Rattle.formulas.specs.Keeps.{Part, Under, top, down, KeepsAt, KeptNode, root, at, Keeps, kept_formulas, Before}
 use Rattle.formulas.specs.Values.{value, Spread, Valued}
@@ -21,9 +23,6 @@ use Rattle.formulas.proofs.Kept.{part_below}
 module _ (G : ℕ → Formula) (s : ℕ) (w : List ℕ) (was holds : List Bool) where
   value_is : (k : ℕ) (n : Node) → G k ≡ made G n → ((c : ℕ) → Part n c → get_or holds c false ≡ sat (G c) (s ∷ w))
       → ((c : ℕ) → KeepsAt k n c → get_or was c false ≡ sat (G c) w) → value s was holds k n ≡ sat (made G n) (s ∷ w)
-  value_is k True e h t = refl
-  value_is k False e h t = refl
-  value_is k (Signal i p) e h t = refl
   value_is k (And a b) e h t = ap₂ ◌&&◌ (h a (inl refl)) (h b (inr refl))
   value_is k (Or a b) e h t = ap₂ ◌||◌ (h a (inl refl)) (h b (inr refl))
   value_is k (Next a) e h t = t a (inr refl)
@@ -31,6 +30,7 @@ module _ (G : ℕ → Formula) (s : ℕ) (w : List ℕ) (was holds : List Bool) 
       let x = h a (inl refl) in let y = h b (inr refl) in let z = t k refl ∙ ap (λ g. sat g w) e in cc
   value_is k (Release a b) e h t =
       let x = h a (inl refl) in let y = h b (inr refl) in let z = t k refl ∙ ap (λ g. sat g w) e in cc
+  value_is k _ e h t = refl
 
 pub valued_more : (ns : List Node) → Topological ns → (s : ℕ) (was : List Bool) (n : ℕ) (holds : List Bool) (b : Bool) → n < length ns
     → b ≡ value s was holds n (get_or ns n True) → Valued ns s was n holds → Valued ns s was (n + 1) (set holds n b)
@@ -64,19 +64,6 @@ spread_more xs n lab was b l small e v = record {
       (cases_eq (get_or xs j 0) x);
 }
 
-map_at : (p : ℕ → Bool) (xs : List ℕ) (j : ℕ) → j < length xs → get_or (map p xs) j false ≡ p (get_or xs j 0)
-map_at p [] j l = absurd (omega arith)
-map_at p (x ∷ xs) zero l = refl
-map_at p (x ∷ xs) (suc j) l = map_at p xs j (omega arith)
-
-pub map_length : {A : Type 0} (p : ℕ → A) (xs : List ℕ) → length (map p xs) ≡ length xs
-map_length p [] = refl
-map_length p (x ∷ xs) = ap suc (map_length p xs)
-
-map_map : (p : Formula → Bool) (q : ℕ → Formula) (xs : List ℕ) → map p (map q xs) ≡ map (λ x. p (q x)) xs
-map_map p q [] = refl
-map_map p q (x ∷ xs) = ap {B = List Bool} (λ r. p (q x) ∷ r) (map_map p q xs)
-
 map_same_at : (p q : ℕ → Bool) (xs : List ℕ) → ((j : ℕ) → j < length xs → p (get_or xs j 0) ≡ q (get_or xs j 0)) → map p xs ≡ map q xs
 map_same_at p q [] h = refl
 map_same_at p q (x ∷ xs) h = ap₂ ◌∷◌ (h 0 (omega arith)) (map_same_at p q xs (λ j l. h (suc j) (omega arith)))
@@ -85,25 +72,21 @@ map_same_at p q (x ∷ xs) h = ap₂ ◌∷◌ (h 0 (omega arith)) (map_same_at 
 pub label_bit : (ns : List Node) (xs : List ℕ) (w : List ℕ) (j : ℕ) → j < length xs
     → on j (mask (label (kept_formulas ns xs) w)) ≡ sat (formula ns (get_or xs j 0)) w
 label_bit ns xs w j l =
-    let e : label (kept_formulas ns xs) w ≡ map (λ x. sat (formula ns x) w) xs = map_map (λ g. sat g w) (formula ns) xs in
+    let e : label (kept_formulas ns xs) w ≡ map (λ x. sat (formula ns x) w) xs = map-map (λ g. sat g w) (formula ns) xs in
     ap (λ b. on j (mask b)) e
-    ∙ (masks_are_right (map (λ x. sat (formula ns x) w) xs)).bit j (omega (arith, map_length (λ x. sat (formula ns x) w) xs))
-    ∙ map_at (λ x. sat (formula ns x) w) xs j l
+    ∙ (masks_are_right (map (λ x. sat (formula ns x) w) xs)).bit j (omega (arith, length-map xs (λ x. sat (formula ns x) w)))
+    ∙ get_or-map (λ x. sat (formula ns x) w) xs j 0 false l
 
 kept_under : {ns : List Node} {r k : ℕ} → Topological ns → r < length ns → KeptNode ns r k → Under ns r k
 kept_under {ns} {r} ordered l root = top
 kept_under {ns} {r} ordered l (at {k = k} {c = c} u p) = go (get_or ns k True) refl (subst (λ n. KeepsAt k n c) refl p)
   where
     go : (n : Node) → get_or ns k True ≡ n → KeepsAt k n c → Under ns r c
-    go True e q = absurd q
-    go False e q = absurd q
-    go (Signal i b) e q = absurd q
-    go (And a b) e q = absurd q
-    go (Or a b) e q = absurd q
     go (Next a) e (inl q) = subst (Under ns r) (sym q) u
     go (Next a) e (inr q) = down u (subst (λ n. Part n c) (sym e) q)
     go (Until a b) e q = subst (Under ns r) (sym q) u
     go (Release a b) e q = subst (Under ns r) (sym q) u
+    go _ e q = absurd q
 
 before_is : (ns : List Node) → Topological ns → (r : ℕ) → r < length ns → (xs : List ℕ) → Keeps ns r xs → (s old : ℕ) (was holds : List Bool)
     → Spread xs (length xs) old was → Valued ns s was (length ns) holds → Before ns xs s old (mask (map (λ k. get_or holds k false) xs))
@@ -116,7 +99,7 @@ before_is ns ordered r l xs ks s old was holds sp v = record {
       ap mask
       (map_same_at (λ k. get_or holds k false) (λ k. sat (formula ns k) (s ∷ w)) xs
       (λ j h. v.at r w l wr (get_or xs j 0) (ks.below j h) (kept_under ordered l (ks.are j h)))
-      ∙ sym (map_map (λ g. sat g (s ∷ w)) (formula ns) xs));
+      ∙ sym (map-map (λ g. sat g (s ∷ w)) (formula ns) xs));
 }
 
 -- the same where the nodes and the kept numbers are parts of longer lists
@@ -137,34 +120,17 @@ pub record Gathered (xs : List ℕ) (h : List Bool) (rest : List ℕ) (lab : ℕ
   pub are : xs ≡ rest ++ after
   pub is : lab ≡ mask (map (λ k. get_or h k false) after)
 
-one_bit : (b : Bool) → bool_byte b ≡ cond b 1 0
-one_bit true = refl
-one_bit false = refl
-
 pub bit_small : (b : Bool) → bool_byte b ≤ 1
 bit_small true = omega arith
 bit_small false = omega arith
-
--- one bit more in front
-pub gather_more : {xs : List ℕ} {h : List Bool} {rest : List ℕ} {lab : ℕ} (front : List ℕ) (x : ℕ) → rest ≡ front ++ x ∷ []
-    → Gathered xs h rest lab → Gathered xs h front (lab * 2 + bool_byte (get_or h x false))
-gather_more {xs} {h} {rest} {lab} front x e g = record {
-  after = x ∷ g.after;
-  are = g.are ∙ ap (λ (ys : List ℕ). ys ++ g.after) e ∙ append_assoc front (x ∷ []) g.after;
-  is = omega (arith, g.is, one_bit (get_or h x false));
-}
 
 pub gather_fits : {xs : List ℕ} {h : List Bool} {rest : List ℕ} {lab : ℕ} (front : List ℕ) (x : ℕ) → rest ≡ front ++ x ∷ []
     → length xs ≤ 32 → Gathered xs h rest lab → lab < 2147483648
 gather_fits {xs} {h} {rest} {lab} front x e l g =
     let bs = map (λ k. get_or h k false) g.after in
     let s = (masks_are_right bs).small in
-    let n : length bs ≡ length g.after = map_length (λ k. get_or h k false) g.after in
+    let n : length bs ≡ length g.after = length-map g.after (λ k. get_or h k false) in
     let m : length xs ≡ length rest + length g.after = ap length g.are ∙ length-append rest g.after in
     let r : length rest ≡ length front + 1 = ap length e ∙ length-append front (x ∷ []) in
     let p : 2 ^ length bs ≤ 2 ^ 31 = pow_mono {i = length bs} {j = 31} (omega arith) in
     omega (arith, s, p, g.is)
-
-pub gather_all : {xs : List ℕ} {h : List Bool} {rest : List ℕ} {lab : ℕ} → Gathered xs h rest lab → length rest ≡ 0 → lab ≡ mask (map (λ k. get_or h k false) xs)
-gather_all {xs} {h} {rest = []} g e = g.is ∙ ap (λ (ys : List ℕ). mask (map (λ k. get_or h k false) ys)) (sym g.are)
-gather_all {xs} {h} {rest = x ∷ rest} g e = absurd (omega arith)

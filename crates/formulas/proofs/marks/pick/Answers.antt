@@ -14,6 +14,6 @@ loop-k-preserved c =
     elim c.if-flag.branch [
       | then-flag+in_ok-push w ↦
           let e = w.in_ok-push.ensures in
-          rw (w.numbers-is, e.2) (picked_more c.args.n c.args.flags.now c.loop-k.k (held c.loop-k.numbers) (omega (arith, e)) c.loop-k-test.true w.if-flag.true c.loop-k.invariant)
+          rw (w.numbers-is, e.2) (picked_more c.loop-k.invariant c.args.n (omega (arith, e)) c.loop-k-test.true w.if-flag.true)
       | else-flag w ↦ rw w.numbers-is (picked_skip c.args.n c.args.flags.now c.loop-k.k (held c.loop-k.numbers) c.loop-k-test.true w.if-flag.false c.loop-k.invariant)
     ]
