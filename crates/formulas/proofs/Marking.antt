@@ -1,8 +1,8 @@
 -- Marks, a node at a time. Assumes nothing.
-use Rattle.std.proofs.Common.{◌≡◌, ℕ, zero, suc, ◌+◌, ◌<◌, ◌≤◌, Bool, true, false, cond, ltb, ◌⊎◌, List, [], ◌∷◌, ◌++◌, length, get_or, take, set, replicate, sym, refl, ap, ◌∙◌, subst, inl, ⊎_elim, append-nil, arith, length-append, length-set, get_or-set_other, below_more}
+use Rattle.std.proofs.Common.{◌≡◌, ℕ, zero, suc, ◌+◌, ◌<◌, ◌≤◌, Bool, true, false, ◌⊎◌, List, [], ◌∷◌, ◌++◌, length, get_or, take, set, replicate, sym, refl, ap, ◌∙◌, subst, inl, ⊎_elim, append-nil, arith, length-append, length-set, get_or-set_other, below_more}
 use mathlib.Core.Bool.{false≢true}
 use Rattle.std.proofs.lemmas.Grind.{common_steps}
-use Rattle.std.proofs.lemmas.Bool.{cases_eq, cases_lt, lt-ltb, le-ltb}
+use Rattle.std.proofs.lemmas.Bool.{cases_eq}
 use Rattle.formulas.specs.declared.node.Node.{Node}
 use Rattle.formulas.specs.declared.node.Node.TheVariants.{True, And, Or, Next, Until, Release}
 use Rattle.formulas.specs.Nodes.{Placed, Topological}
@@ -243,22 +243,14 @@ module _ {fs : List Bool} {n : ℕ} {xs : List ℕ} (p : Picked fs n xs) where
         (λ q. (length xs, more_last.0, more_last.1));
   }
 
-pub beyond : (front : ℕ) (fs : List Bool) (n : ℕ) (xs : List ℕ) → length xs ≡ 32 → n < length (take front fs) → get_or (take front fs) n false ≡ true → Picked fs n xs → Beyond fs
-beyond front fs n xs full nl flagged p =
-    let on = of_front front fs n true nl flagged in
-    let g : ℕ → ℕ = λ i. cond (ltb i 32) (get_or xs i 0) n in
-    let low : (i : ℕ) → i < 32 → g i ≡ get_or xs i 0 = λ i l. ap (λ b. cond b (get_or xs i 0) n) (lt-ltb i 32 l) in
-    let high : (i : ℕ) → 32 ≤ i → g i ≡ n = λ i l. ap (λ b. cond b (get_or xs i 0) n) (le-ltb i 32 l) in
-    record {
-      number = g;
-      rising = λ i j h l. ⊎_elim
-          (λ jl. subst (λ (z : ℕ). z < g j) (sym (low i (omega arith))) (subst (λ (z : ℕ). get_or xs i 0 < z) (sym (low j jl)) (p.rising i j h (omega arith))))
-          (λ jl. subst (λ (z : ℕ). z < g j) (sym (low i (omega arith))) (subst (λ (z : ℕ). get_or xs i 0 < z) (sym (high j jl)) (p.below i (omega arith))))
-          (cases_lt j 32);
-      are = λ j l. ⊎_elim
-          (λ jl. ap (λ (z : ℕ). get_or fs z false) (low j jl) ∙ p.are j (omega arith))
-          (λ jl. ap (λ (z : ℕ). get_or fs z false) (high j jl) ∙ on) (cases_lt j 32);
-    }
+  pub beyond : (m : ℕ) → length xs ≡ 32 → n < length (take m fs) → get_or (take m fs) n false ≡ true → Beyond fs
+  beyond m full nl on =
+      let size : length (xs ++ n ∷ []) ≡ 33 = simp length-append (omega arith) in
+      record {
+        number = λ i. get_or (xs ++ n ∷ []) i 0;
+        rising = λ i j h l. more_rising i j h (omega arith);
+        are = λ j l. more_are (of_front m fs n true nl on) j (omega arith);
+      }
 
 pub keeps_picked : (ns : List Node) (r : ℕ) (fs : List Bool) (xs : List ℕ) → Topological ns → r < length ns → Marked ns r fs → Picked fs (length ns) xs → Keeps ns r xs
 keeps_picked ns r fs xs ordered l mk p = record {

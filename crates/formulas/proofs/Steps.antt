@@ -4,6 +4,7 @@ use mathlib.Core.Logic.{∥∥₁_elim}
 use native.Mathlib.Nat.{ℕ_set}
 use mir.Val.{bool_byte}
 use Rattle.std.proofs.lemmas.Bool.{cases_eq}
+use Rattle.std.proofs.lemmas.Grind.{common_steps}
 use Rattle.std.proofs.lemmas.List.{length-map, get_or-map}
 use Rattle.std.proofs.lemmas.Simd.{map-map}
 use Rattle.logic.specs.Formula.{Formula, on}
@@ -54,14 +55,7 @@ pub spread_more : (xs : List ℕ) (n label : ℕ) (was : List Bool) (b : Bool) �
     → Spread xs n label was → Spread xs (n + 1) label (set was (get_or xs n 0) b)
 spread_more xs n lab was b l small e v = record {
   size = simp length-set v.size;
-  at = λ p h j below.
-      let x = get_or xs n 0 in
-      let fits : x < length was = omega (arith, v.size) in
-      let here : get_or (set was x b) x false ≡ p x = get_or-set_same was x b false fits ∙ e ∙ h n l in
-      ⊎_elim
-      (λ (q : get_or xs j 0 ≡ x). ap (λ (i : ℕ). get_or (set was x b) i false) q ∙ here ∙ ap p (sym q))
-      (λ q. get_or-set_other was x (get_or xs j 0) b false q ∙ v.at p h j (⊎_elim (λ (d : j ≡ n). absurd (q (ap (λ (i : ℕ). get_or xs i 0) d))) (λ d. omega arith) (cases_eq j n)))
-      (cases_eq (get_or xs j 0) x);
+  at = λ p h j below. let s = v.size in let a = v.at p h in let here = h n l in grind (arith, common_steps, get_or-set_other, a);
 }
 
 map_same_at : (p q : ℕ → Bool) (xs : List ℕ) → ((j : ℕ) → j < length xs → p (get_or xs j 0) ≡ q (get_or xs j 0)) → map p xs ≡ map q xs

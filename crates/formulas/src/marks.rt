@@ -59,6 +59,7 @@ fn mark_node(node: Node, k: usize, under: &mut [bool; 256], flags: &mut [bool; 2
 }
 
 // The marks of the nodes that are kept of a root.
+// Kept: `under` and `flags` are two sets of nodes, written apart; one array of pairs would be written half by half.
 pub(crate) fn mark(nodes: &[Node], root: usize) -> [bool; 256]
     requires ordered { Topological nodes.now }
     requires root { root < length nodes.now }

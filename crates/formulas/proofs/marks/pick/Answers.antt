@@ -7,7 +7,7 @@ use Rattle.formulas.proofs.marks.pick.Goals.{then-flag+in_ok-push, else-flag}
 pub returns-in_err-push : goal.returns-in_err-push
 returns-in_err-push c =
     rw c.from_residual.ensures
-    (beyond c.args.n c.args.flags.now c.loop-k.k (held c.loop-k.numbers) c.in_err-push.ensures.0 c.loop-k-test.true c.if-flag.true c.loop-k.invariant)
+    (beyond c.loop-k.invariant c.args.n c.in_err-push.ensures.0 c.loop-k-test.true c.if-flag.true)
 
 pub loop-k-preserved : goal.loop-k-preserved
 loop-k-preserved c =
