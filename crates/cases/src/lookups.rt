@@ -10,7 +10,7 @@ use machines::round::Round;
 use machines::stuck::StuckLayer;
 use machines::table::Table;
 use meaning::answers::Verdict;
-use meaning::refusals::SearchingFault;
+use meaning::refusals::{Refusal, SearchingFault};
 use pairs::pair::Pair;
 use std::alloc::{AllocError, Global};
 

@@ -11,7 +11,7 @@ use loading::load::load;
 use machines::records::{State, Step};
 use machines::table::Table;
 use meaning::answers::Verdict;
-use meaning::refusals::{FileFault, LineFault, TableFault};
+use meaning::refusals::{FileFault, LineFault, Refusal, TableFault};
 use pairs::pair::Pair;
 use rules::sheet::Sheet;
 use std::alloc::{AllocError, Global};

@@ -2,7 +2,7 @@
 ghost use Rattle.std.specs.Prelude.{◌≡◌, ◌++◌, length, IfOk, string_bytes, codes};
 ghost use Rattle.meaning.specs.Printed.{field, fields, fault_line, rule_line};
 
-use meaning::refusals::FileFault;
+use meaning::refusals::{FileFault, Refusal};
 use std::alloc::{AllocError, Global};
 
 // The one line of a refused file.

@@ -1,6 +1,7 @@
 // Filling, beginning and scanning.
 use charts::chart::Chart;
 use meaning::answers::Scanned;
+use meaning::refusals::Refusal;
 use rules::sheet::Sheet;
 use std::test::Fail;
 

@@ -5,6 +5,7 @@ use machines::machine::Machine;
 use machines::round::Round;
 use machines::stuck::StuckLayer;
 use meaning::answers::Verdict;
+use meaning::refusals::Refusal;
 use pairs::pair::Pair;
 use rules::sheet::Sheet;
 use std::alloc::Global;
