@@ -1,8 +1,11 @@
-// Every refusal, with its number. A place is a byte of the rule text, from 0.
-ghost use Rattle.std.specs.Prelude.{◌≡◌, ℕ, ◌≤◌};
+// Every refusal, with its number and its text. A place is a byte of the rule text, from 0.
+ghost use Rattle.std.specs.Prelude.{◌≡◌, ℕ, ◌≤◌, Some};
 ghost use Rattle.std.proofs.Common.{rules};
 ghost use Rattle.meaning.specs.Refusals.{number_of_names, number_of_rule, number_of_sheet, number_of_filling, number_of_beginning, number_of_scanning};
 ghost use Rattle.meaning.specs.Refusals.{number_of_searching, number_of_table, number_of_line_fault, number_of_fitting, place_of_rule, place_of_sheet, place_of_line_fault, layer_of_sheet, layer_of_line_fault};
+ghost use Rattle.meaning.specs.Printed.{fault_text};
+
+use std::fmt;
 
 // Opening.
 #[derive(Clone, Copy, Debug, PartialEq, Eq)]
@@ -286,5 +289,18 @@ impl LineFault {
             LineFault::Sheet(e) => e.layer(),
             LineFault::Table(_) => "table",
         }
+    }
+}
+
+// What is printed for a refused file.
+impl fmt::Display for FileFault {
+    ghost output = { λ x. Some (fault_text x) };
+
+    fn fmt<W: fmt::Write>(&self, f: &mut fmt::Formatter<W>) -> fmt::Result {
+        let FileFault { line, fault } = *self;
+        let layer = fault.layer();
+        let number = fault.number();
+        let place = fault.place();
+        write!(f, "file,refused,{line},{layer},{number},{place}")
     }
 }
