@@ -35,8 +35,7 @@ fn write_look(
         Ok(Verdict::Clear { pairs }) => Said::Clear(pairs),
         Err(fault) => Said::Refused(fault.number()),
     };
-    let line = RuleLine { rule, said };
-    writeln!(text, "{line}")
+    writeln!(text, "{}", RuleLine { rule, said })
 }
 
 // Writes the line of a rule: a new chart is filled with it, and gone by if that is accepted.
@@ -59,8 +58,7 @@ fn write_rule(
         Ok(_) => write_look(text, heap, rule, &chart, table),
         Err(fault) => {
             let said = Said::Refused(fault.number());
-            let line = RuleLine { rule, said };
-            writeln!(text, "{line}")
+            writeln!(text, "{}", RuleLine { rule, said })
         }
     }
 }
