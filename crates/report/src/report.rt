@@ -4,7 +4,7 @@ ghost use Rattle.meaning.specs.declared.refusals.LineFault.TheVariants.{Table as
 ghost use Rattle.meaning.specs.declared.refusals.TableFault.TheVariants.{NoRoom};
 ghost use Rattle.meaning.specs.Printed.{fault_line};
 
-use crate::text::{RuleLine, Said};
+use crate::text::{RuleLine, Said, fault_line};
 use breaches::find::find_breach;
 use charts::chart::Chart;
 use loading::load::load;
@@ -15,7 +15,6 @@ use meaning::refusals::{FileFault, LineFault, Refusal, TableFault};
 use pairs::pair::Pair;
 use rules::sheet::Sheet;
 use std::alloc::{AllocError, Global};
-use std::fmt::Write;
 
 // How long a file may be.
 const FILE_ROOM: usize = 8192;
@@ -35,7 +34,7 @@ fn write_look(
         Ok(Verdict::Clear { pairs }) => Said::Clear(pairs),
         Err(fault) => Said::Refused(fault.number()),
     };
-    writeln!(text, "{}", RuleLine { rule, said })
+    RuleLine { rule, said }.write_to(text)
 }
 
 // Writes the line of a rule: a new chart is filled with it, and gone by if that is accepted.
@@ -58,7 +57,7 @@ fn write_rule(
         Ok(_) => write_look(text, heap, rule, &chart, table),
         Err(fault) => {
             let said = Said::Refused(fault.number());
-            writeln!(text, "{}", RuleLine { rule, said })
+            RuleLine { rule, said }.write_to(text)
         }
     }
 }
@@ -70,7 +69,7 @@ fn report_short(heap: Global, file: &[u8]) -> Result<String, AllocError> {
     let mut sheet = Sheet::new();
     let mut table = Table::new(states.as_mut_slice(), steps.as_mut_slice());
     if let Err(fault) = load(&mut sheet, &mut table, file) {
-        return format!(in heap; "{fault}\n");
+        return fault_line(heap, fault);
     }
     let mut text = String::new(heap);
     for rule in 0..sheet.rule_count() {
@@ -88,7 +87,7 @@ pub fn report(heap: Global, file: &[u8]) -> Result<String, AllocError>
             line: 0,
             fault: LineFault::Table(TableFault::NoRoom),
         };
-        return format!(in heap; "{fault}\n");
+        return fault_line(heap, fault);
     }
     report_short(heap, file)
 }

@@ -1,10 +1,20 @@
-// The lines that are printed of rules.
-ghost use Rattle.std.specs.Prelude.{Some, ◌++◌, length, codes};
+// The lines that are printed.
+ghost use Rattle.std.specs.Prelude.{◌≡◌, Some, ◌++◌, length, codes, IfOk, string_bytes};
 ghost use Rattle.std.specs.Fmt.{WritesOnOk};
-ghost use Rattle.meaning.specs.Printed.{field, fields, rule_text};
+ghost use Rattle.meaning.specs.Printed.{field, fields, fault_line, rule_line, rule_text};
 ghost use Rattle.report.specs.Said.{said_text};
 
+use meaning::refusals::FileFault;
+use std::alloc::{AllocError, Global};
 use std::fmt;
+use std::fmt::Write;
+
+// The one line of a refused file.
+pub(crate) fn fault_line(heap: Global, refused: FileFault) -> Result<String, AllocError>
+    ensures { IfOk result (λ s. string_bytes s ≡ fault_line refused) }
+{
+    format!(in heap; "{refused}\n")
+}
 
 // What is said of a rule: the walk that breaks it, or of how many pairs it is clear, or the number of the refusal.
 #[derive(Clone, Copy)]
@@ -14,11 +24,20 @@ pub(crate) enum Said<'a> {
     Refused(u8),
 }
 
-// The line of a rule.
+// What is said of which rule.
 #[derive(Clone, Copy)]
 pub(crate) struct RuleLine<'a> {
     pub(crate) rule: usize,
     pub(crate) said: Said<'a>,
+}
+
+impl RuleLine<'_> {
+    // Writes the line behind a text.
+    pub(crate) fn write_to(&self, text: &mut String) -> Result<(), AllocError>
+        ensures { IfOk result (λ _. string_bytes text.new ≡ string_bytes text.old ++ rule_line self.now.rule (said_text self.now.said)) }
+    {
+        writeln!(text, "{self}")
+    }
 }
 
 impl fmt::Display for RuleLine<'_> {
