@@ -1,5 +1,5 @@
 // Reads a file of signals, rules, states and steps from standard input, and prints for each rule a shortest breach, or that it is clear, or why
-// it is refused.
+// it is refused. Nothing stands on it.
 #![tactic(auto)]
 
 ghost use Rattle.std.specs.Prelude.{◌≤◌, IfOk, vec_len};

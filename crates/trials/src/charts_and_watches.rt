@@ -34,7 +34,11 @@ fn a_watch_goes_its_way(rt: HostRuntime) -> Result<(), Fail> {
     let sheet = sheet_of(b"G -> stop X ! full")?;
     let mut areas = Areas::new(rt.alloc(), 8, 3, 768)?;
     let mut chart = areas.chart();
-    assert!(rt; chart.begin().is_err(), "a blank chart takes no beginning");
+    assert_eq!(rt;
+        numbered(chart.begin()),
+        Err(11),
+        "a blank chart takes no beginning"
+    );
     assert_eq!(rt; numbered(chart.scan(0)), Err(11));
     assert!(rt; chart.fill(&sheet, 0).is_ok());
     assert_eq!(rt; numbered(chart.scan(0)), Err(12));

@@ -56,8 +56,9 @@ fn what_is_refused_before_looking(rt: HostRuntime) -> Result<(), Fail> {
 #[test]
 fn piles_of_stuck_layers(rt: HostRuntime) {
     let round = Round::new(b"\x00\x02");
-    assert!(rt;
-        StuckLayer::new(&round, 8).fitting().is_err(),
+    assert_eq!(rt;
+        numbered(StuckLayer::new(&round, 8).fitting()),
+        Err(20),
         "signal 8 does not fit"
     );
     assert_eq!(rt; StuckLayer::new(&round, 8).count(), 0);
