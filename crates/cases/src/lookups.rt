@@ -1,7 +1,8 @@
 // Breaches of tables and rounds, under up to three stuck layers, with a given pair room.
 use crate::areas::Areas;
-use crate::machine::{add_states, add_steps, letters_of};
+use crate::machine::{add_states, add_steps, bytes_of};
 use crate::sheets::{field, sheet_of};
+use anyhow::anyhow;
 use breaches::find::find_breach;
 use charts::chart::Chart;
 use machines::machine::Machine;
@@ -10,137 +11,108 @@ use machines::round::Round;
 use machines::stuck::StuckLayer;
 use machines::table::Table;
 use meaning::answers::Verdict;
-use meaning::refusals::SearchingFault;
+use meaning::refusals::{Refusal, SearchingFault};
 use pairs::pair::Pair;
 use std::alloc::{AllocError, Global};
+use std::fmt;
 
-// Looks with `room` pairs, at most 1,000, and a walk area longer by one.
-fn look_in<M: Machine>(
-    heap: Global,
-    chart: &Chart,
-    machine: &M,
-    room: usize,
-) -> Result<String, AllocError> {
-    let room = room.min(1000);
-    let mut pairs = vec![in heap; Pair::BLANK; room]?;
-    let mut walk = vec![in heap; 0; room + 1]?;
-    answer_text(
-        heap,
-        find_breach(chart, machine, pairs.as_mut_slice(), walk.as_mut_slice()),
-    )
-}
+// An answer, as it is written in a line.
+#[derive(Clone, Copy)]
+struct Answer(Result<Verdict, SearchingFault>);
 
-// Looks under stuck layers, the lowest signal first.
-fn look_under<M: Machine>(
-    heap: Global,
-    chart: &Chart,
-    machine: &M,
-    signals: &[u8],
-    room: usize,
-) -> Result<String, AllocError> {
-    match signals {
-        [] => look_in(heap, chart, machine, room),
-        [a] => look_in(heap, chart, &StuckLayer::new(machine, *a), room),
-        [a, b] => look_in(
-            heap,
-            chart,
-            &StuckLayer::new(StuckLayer::new(machine, *a), *b),
-            room,
-        ),
-        [a, b, c, ..] => look_in(
-            heap,
-            chart,
-            &StuckLayer::new(StuckLayer::new(StuckLayer::new(machine, *a), *b), *c),
-            room,
-        ),
-    }
-}
-
-// How an answer is written.
-fn answer_text(
-    heap: Global,
-    answer: Result<Verdict, SearchingFault>,
-) -> Result<String, AllocError> {
-    match answer {
-        Ok(Verdict::Shown { states }) => format!(in heap; "shown {states}"),
-        Ok(Verdict::Clear { pairs }) => format!(in heap; "clear {pairs}"),
-        Err(fault) => {
-            let number = fault.number();
-            format!(in heap; "refused {number}")
+impl fmt::Display for Answer {
+    fn fmt<W: fmt::Write>(&self, f: &mut fmt::Formatter<W>) -> fmt::Result {
+        match self.0 {
+            Ok(Verdict::Shown { states }) => write!(f, "shown {states}"),
+            Ok(Verdict::Clear { pairs }) => write!(f, "clear {pairs}"),
+            Err(fault) => {
+                let number = fault.number();
+                write!(f, "refused {number}")
+            }
         }
     }
 }
 
-fn look_round(
+// What a line asks of its machine: whether it breaks the chart's rule under stuck layers for these signals, with room for so many pairs.
+#[derive(Clone, Copy)]
+struct Question<'a> {
     heap: Global,
-    chart: &Chart,
-    letters: &str,
-    signals: &[u8],
+    chart: &'a Chart<'a>,
+    signals: &'a [u8],
     room: usize,
-) -> anyhow::Result<String> {
-    let letters = letters_of(heap, letters)?;
-    let round = Round::new(letters.as_slice());
-    Ok(look_under(heap, chart, &round, signals, room)?)
 }
 
-fn look_table(
-    heap: Global,
-    chart: &Chart,
-    states: &str,
-    steps: &str,
-    signals: &[u8],
-    room: usize,
-) -> anyhow::Result<String> {
-    let mut state_area = vec![in heap; State::BLANK; 256]?;
-    let mut step_area = vec![in heap; Step::BLANK; 1024]?;
-    let mut table = Table::new(state_area.as_mut_slice(), step_area.as_mut_slice());
-    add_states(&mut table, states)?;
-    add_steps(&mut table, steps)?;
-    Ok(look_under(heap, chart, &table, signals, room)?)
-}
-
-// The signals of the layers, parted by commas; `-` for none.
-fn signals_of(heap: Global, text: &str) -> anyhow::Result<Vec<u8>> {
-    let mut signals = Vec::new(heap);
-    if text == "-" {
-        return Ok(signals);
+impl Question<'_> {
+    // Looks with room for at most 1,000 pairs, and a walk area longer by one.
+    fn look<M: Machine>(&self, machine: &M) -> Result<Answer, AllocError> {
+        let room = self.room.min(1000);
+        let mut pairs = vec![in self.heap; Pair::BLANK; room]?;
+        let mut walk = vec![in self.heap; 0; room + 1]?;
+        let answer = find_breach(
+            self.chart,
+            machine,
+            pairs.as_mut_slice(),
+            walk.as_mut_slice(),
+        );
+        Ok(Answer(answer))
     }
-    for signal in text.split(',') {
-        signals.push(signal.parse::<u8>()?)?;
-    }
-    Ok(signals)
-}
 
-// The answer over the machine of a line: `round LETTERS`, or `table STATES STEPS`.
-fn answer_over(
-    heap: Global,
-    chart: &Chart,
-    machine: &str,
-    signals: &[u8],
-    room: usize,
-) -> anyhow::Result<String> {
-    let first = machine.split(' ').nth(1).unwrap_or("");
-    let second = machine.split(' ').nth(2).unwrap_or("");
-    if machine.starts_with("round") {
-        look_round(heap, chart, first, signals, room)
-    } else {
-        look_table(heap, chart, first, second, signals, room)
+    // Looks under the stuck layers, the lowest signal first.
+    // Kept: one arm for each height, since a recursion over `&dyn Machine` gets no proof, and one over a type parameter has no last type.
+    fn look_under_layers<M: Machine>(&self, machine: &M) -> Result<Answer, AllocError> {
+        match self.signals {
+            [] => self.look(machine),
+            [a] => self.look(&StuckLayer::new(machine, *a)),
+            [a, b] => self.look(&StuckLayer::new(StuckLayer::new(machine, *a), *b)),
+            [a, b, c, ..] => self.look(&StuckLayer::new(
+                StuckLayer::new(StuckLayer::new(machine, *a), *b),
+                *c,
+            )),
+        }
     }
-}
 
-fn answer_of(heap: Global, chart: &Chart, line: &str) -> anyhow::Result<String> {
-    let signals = signals_of(heap, field(line, 3))?;
-    let room = field(line, 4).parse::<usize>()?;
-    answer_over(heap, chart, field(line, 2), signals.as_slice(), room)
+    fn of_round(&self, letters: &str) -> anyhow::Result<Answer> {
+        let letters = bytes_of(self.heap, letters, '/')?;
+        Ok(self.look_under_layers(&Round::new(letters.as_slice()))?)
+    }
+
+    fn of_table(&self, states: &str, steps: &str) -> anyhow::Result<Answer> {
+        let mut state_area = vec![in self.heap; State::BLANK; 256]?;
+        let mut step_area = vec![in self.heap; Step::BLANK; 1024]?;
+        let mut table = Table::new(state_area.as_mut_slice(), step_area.as_mut_slice());
+        add_states(&mut table, states)?;
+        add_steps(&mut table, steps)?;
+        Ok(self.look_under_layers(&table)?)
+    }
+
+    // The answer over the machine of a line: `round LETTERS`, or `table STATES STEPS`.
+    fn of_machine(&self, machine: &str) -> anyhow::Result<Answer> {
+        if let Some(letters) = machine.strip_prefix("round ") {
+            return self.of_round(letters);
+        }
+        let (states, steps) = machine
+            .strip_prefix("table ")
+            .and_then(|table| table.split_once(' '))
+            .ok_or_else(|| anyhow!("neither a round nor a table"))?;
+        self.of_table(states, steps)
+    }
 }
 
 pub(crate) fn passes(heap: Global, line: &str) -> anyhow::Result<bool> {
-    let sheet = sheet_of(field(line, 0), field(line, 1))?;
+    let sheet = sheet_of(line)?;
     let mut areas = Areas::new(heap)?;
     let mut chart = areas.chart();
     if chart.fill(&sheet, 0).is_err() {
         return Ok(false);
     }
-    let answer = answer_of(heap, &chart, line)?;
-    Ok(answer.as_str() == field(line, 5))
+    let signals = bytes_of(heap, field(line, 3), ',')?;
+    let question = Question {
+        heap,
+        chart: &chart,
+        signals: signals.as_slice(),
+        room: field(line, 4).parse()?,
+    };
+    let answer = question.of_machine(field(line, 2))?;
+    let text = format!(in heap; "{answer}")?;
+    Ok(text.as_str() == field(line, 5))
 }

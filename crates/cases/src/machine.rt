@@ -3,30 +3,27 @@ use anyhow::anyhow;
 use machines::table::Table;
 use std::alloc::Global;
 
-// The letters of a round, parted by slashes; `-` for none.
-pub(crate) fn letters_of(heap: Global, text: &str) -> anyhow::Result<Vec<u8>> {
-    let mut letters = Vec::new(heap);
-    if text == "-" {
-        return Ok(letters);
+// Numbers parted by a separator; `-` for none.
+pub(crate) fn bytes_of(heap: Global, text: &str, separator: char) -> anyhow::Result<Vec<u8>> {
+    let mut bytes = Vec::new(heap);
+    if text != "-" {
+        for byte in text.split(separator) {
+            bytes.push(byte.parse()?)?;
+        }
     }
-    for letter in text.split('/') {
-        letters.push(letter.parse::<u8>()?)?;
-    }
-    Ok(letters)
+    Ok(bytes)
 }
 
 // Adds the states, START:LETTER parted by slashes.
 pub(crate) fn add_states(table: &mut Table, text: &str) -> anyhow::Result<()> {
     for state in text.split('/') {
-        let start = state.split(':').nth(0).unwrap_or("");
-        let letter = state.split(':').nth(1).unwrap_or("");
+        let (start, letter) = state
+            .split_once(':')
+            .ok_or_else(|| anyhow!("a state has no letter"))?;
         let number = table.states();
-        if table
-            .add_state(number, start == "1", letter.parse::<u8>()?)
-            .is_err()
-        {
-            return Err(anyhow!("a state is refused"));
-        }
+        table
+            .add_state(number, start == "1", letter.parse()?)
+            .map_err(|_| anyhow!("a state is refused"))?;
     }
     Ok(())
 }
@@ -37,14 +34,12 @@ pub(crate) fn add_steps(table: &mut Table, text: &str) -> anyhow::Result<()> {
         return Ok(());
     }
     for step in text.split('/') {
-        let from = step.split('>').nth(0).unwrap_or("");
-        let to = step.split('>').nth(1).unwrap_or("");
-        if table
-            .add_step(from.parse::<usize>()?, to.parse::<usize>()?)
-            .is_err()
-        {
-            return Err(anyhow!("a step is refused"));
-        }
+        let (from, to) = step
+            .split_once('>')
+            .ok_or_else(|| anyhow!("a step has no end"))?;
+        table
+            .add_step(from.parse()?, to.parse()?)
+            .map_err(|_| anyhow!("a step is refused"))?;
     }
     Ok(())
 }

@@ -1,5 +1,5 @@
 // Runs tables of cases that were made by an independent implementation: numbers of labels and standings, watches, and breaches found over tables, rounds
-// and stuck layers with given pair rooms. Lines that begin with # are comments; the first one names the columns.
+// and stuck layers with given pair rooms. Lines that begin with # are comments; the first one names the columns. Nothing stands on it.
 #![tactic(auto)]
 
 mod areas;
@@ -9,34 +9,22 @@ mod machine;
 mod sheets;
 mod watches;
 
+use std::alloc::Global;
 use std::fs;
 
-// The tables.
-#[derive(Clone, Copy)]
-enum Kind {
-    Counts,
-    Watches,
-    Breaches,
-}
-
-// Whether the case of a line comes out as it says.
-fn passes(rt: &HostRuntime, kind: Kind, line: &str) -> anyhow::Result<bool> {
-    match kind {
-        Kind::Counts => counts::passes(rt.alloc(), line),
-        Kind::Watches => watches::passes(rt.alloc(), line),
-        Kind::Breaches => lookups::passes(rt.alloc(), line),
-    }
-}
-
-fn run_table(rt: &HostRuntime, kind: Kind, path: &str) -> anyhow::Result<()> {
+// Runs a table: `passes` says of a line whether its case comes out as it says.
+fn run_table<F: Fn(Global, &str) -> anyhow::Result<bool>>(
+    rt: &HostRuntime,
+    path: &str,
+    passes: F,
+) -> anyhow::Result<()>
+    requires { F.IsAlwaysCallable passes }
+{
     let text = fs::read_to_string(rt, path)?;
     let mut passed: u32 = 0;
     let mut failed: u32 = 0;
-    for line in text.as_str().lines() {
-        if line.starts_with("#") {
-            continue;
-        }
-        if passes(rt, kind, line)? {
+    for line in text.as_str().lines().filter(|line| !line.starts_with('#')) {
+        if passes(rt.alloc(), line)? {
             passed = passed.saturating_add(1);
         } else {
             failed = failed.saturating_add(1);
@@ -47,12 +35,8 @@ fn run_table(rt: &HostRuntime, kind: Kind, path: &str) -> anyhow::Result<()> {
     Ok(())
 }
 
-fn run(rt: &HostRuntime) -> anyhow::Result<()> {
-    run_table(rt, Kind::Counts, "counts.tsv")?;
-    run_table(rt, Kind::Watches, "watch.tsv")?;
-    run_table(rt, Kind::Breaches, "breaches.tsv")
-}
-
 fn main(rt: HostRuntime) -> anyhow::Result<()> {
-    run(&rt)
+    run_table(&rt, "counts.tsv", counts::passes)?;
+    run_table(&rt, "watch.tsv", watches::passes)?;
+    run_table(&rt, "breaches.tsv", lookups::passes)
 }

@@ -7,14 +7,14 @@ pub(crate) fn field(line: &str, number: usize) -> &str {
     line.split('\t').nth(number).unwrap_or("")
 }
 
-// A sheet with these names and one rule.
-pub(crate) fn sheet_of(names: &str, rule: &str) -> anyhow::Result<Sheet> {
+// The sheet of a line: its first two fields are the names and a rule.
+pub(crate) fn sheet_of(line: &str) -> anyhow::Result<Sheet> {
     let mut sheet = Sheet::new();
-    if sheet.open(names.as_bytes()).is_err() {
-        return Err(anyhow!("the names are refused"));
-    }
-    if sheet.enter(rule.as_bytes()).is_err() {
-        return Err(anyhow!("the rule is refused"));
-    }
+    sheet
+        .open(field(line, 0).as_bytes())
+        .map_err(|_| anyhow!("the names are refused"))?;
+    sheet
+        .enter(field(line, 1).as_bytes())
+        .map_err(|_| anyhow!("the rule is refused"))?;
     Ok(sheet)
 }

@@ -1,13 +1,10 @@
--- A breach stays one when letters are added, and the empty word is none. Assumes nothing.
+-- A breach stays one when letters are added. Assumes nothing.
 use Rattle.std.proofs.Common.{◌≡◌, ℕ, true, List, [], ◌∷◌, ◌++◌, refl, arith}
 use mathlib.Core.Bool.{false≢true}
 use Rattle.logic.specs.Formula.{Formula, tru, fls, lit, and, or, next, until, release}
 use Rattle.logic.specs.Sat.{sat}
-use Rattle.logic.specs.Statements.{EmptyIsNoBreach, BreachStays}
+use Rattle.logic.specs.Statements.{BreachStays}
 use Rattle.logic.proofs.Sat.{breach_is_sat}
-
-pub empty_is_no_breach : EmptyIsNoBreach
-empty_is_no_breach f b = b.0 refl
 
 sat_stays : (f : Formula) (w v : List ℕ) → sat f w ≡ true → sat f (w ++ v) ≡ true
 sat_stays tru [] v e = absurd (false≢true e)

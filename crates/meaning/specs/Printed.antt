@@ -1,5 +1,6 @@
 -- What the program prints for a file: the answers of the calls that it makes. Assumes nothing.
 use Rattle.std.specs.Prelude.{◌≡◌, ℕ, zero, suc, ◌+◌, ◌<◌, ◌≤◌, ◌⊎◌, List, [], ◌∷◌, ◌++◌, length, take, Ok, Err, codes, decimal, Result}
+use Rattle.std.specs.List.{flat_map}
 use Rattle.meaning.specs.declared.refusals.LineFault.TheVariants.{Table}
 use Rattle.meaning.specs.declared.refusals.TableFault.TheVariants.{NoRoom}
 use Rattle.meaning.specs.declared.refusals.FileFault.{FileFault}
@@ -26,16 +27,21 @@ abbrev pub field : ℕ → Text
 field n = 44 ∷ decimal n
 
 abbrev pub fields : List ℕ → Text
-fields [] = []
-fields (n ∷ ns) = field n ++ fields ns
+fields ns = flat_map field ns
 
--- `file,refused,` line, layer, number, place
+-- `file,refused,` line, layer, number, place; and the line of it
+abbrev pub fault_text : FileFault → Text
+fault_text x = codes "file,refused," ++ (decimal x.line ++ (44 ∷ (layer_of_line_fault x.fault ++ (field (number_of_line_fault x.fault) ++ field (place_of_line_fault x.fault)))))
+
 abbrev pub fault_line : FileFault → Text
-fault_line x = codes "file,refused," ++ (decimal x.line ++ (44 ∷ (layer_of_line_fault x.fault ++ (field (number_of_line_fault x.fault) ++ (field (place_of_line_fault x.fault) ++ codes "\n")))))
+fault_line x = fault_text x ++ codes "\n"
 
--- `rule,` number, verdict, and then states with the walk, or pairs, or the refusal's number
+-- `rule,` number, verdict, and then states with the walk, or pairs, or the refusal's number; and the line of it
+abbrev pub rule_text : ℕ → Text → Text
+rule_text k rest = codes "rule," ++ (decimal k ++ rest)
+
 abbrev pub rule_line : ℕ → Text → Text
-rule_line k rest = codes "rule," ++ (decimal k ++ (rest ++ codes "\n"))
+rule_line k rest = rule_text k rest ++ codes "\n"
 
 abbrev pub verdict : Result Verdict SearchingFault × List ℕ → Text
 verdict (Ok (Shown n), w) = codes ",broken" ++ (field n ++ fields (take n w))

@@ -1,4 +1,5 @@
 // A fault carried inside that of the layer above.
+// Kept: by hand, since contracts name the fault that a `?` makes (`from_gives`), and a derive says nothing of it.
 ghost use Rattle.std.specs.Prelude.{◌≡◌};
 ghost use Rattle.meaning.specs.declared.refusals.SheetFault.TheVariants.{Rule};
 ghost use Rattle.meaning.specs.declared.refusals.LineFault.TheVariants.{Names, Sheet, Table};

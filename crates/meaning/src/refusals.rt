@@ -1,16 +1,20 @@
-// Every refusal, with its number. A place is a byte of the rule text, from 0.
-ghost use Rattle.std.specs.Prelude.{◌≡◌};
+// Every refusal, with its number and its text. A place is a byte of the rule text, from 0.
+ghost use Rattle.std.specs.Prelude.{◌≡◌, ℕ, ◌≤◌, Some};
+ghost use Rattle.std.proofs.Common.{rules};
 ghost use Rattle.meaning.specs.Refusals.{number_of_names, number_of_rule, number_of_sheet, number_of_filling, number_of_beginning, number_of_scanning};
 ghost use Rattle.meaning.specs.Refusals.{number_of_searching, number_of_table, number_of_line_fault, number_of_fitting, place_of_rule, place_of_sheet, place_of_line_fault, layer_of_sheet, layer_of_line_fault};
+ghost use Rattle.meaning.specs.Printed.{fault_text};
+
+use std::fmt;
 
 // Opening.
-#[derive(Clone, Copy)]
+#[derive(Clone, Copy, Debug, PartialEq, Eq)]
 pub enum NamesFault {
     Unfit,
 }
 
 // Entering: the text itself.
-#[derive(Clone, Copy)]
+#[derive(Clone, Copy, Debug, PartialEq, Eq)]
 pub enum RuleFault {
     WrongWord { place: usize },
     WordWanted { place: usize },
@@ -19,7 +23,7 @@ pub enum RuleFault {
 }
 
 // Entering: the text, or what it would bring to the sheet.
-#[derive(Clone, Copy)]
+#[derive(Clone, Copy, Debug, PartialEq, Eq)]
 pub enum SheetFault {
     Rule(RuleFault),
     OverKept,
@@ -27,7 +31,7 @@ pub enum SheetFault {
 }
 
 // Filling.
-#[derive(Clone, Copy)]
+#[derive(Clone, Copy, Debug, PartialEq, Eq)]
 pub enum FillingFault {
     NoRule,
     LabelsExceed,
@@ -35,13 +39,13 @@ pub enum FillingFault {
 }
 
 // Beginning.
-#[derive(Clone, Copy)]
+#[derive(Clone, Copy, Debug, PartialEq, Eq)]
 pub enum BeginningFault {
     Blank,
 }
 
 // Scanning.
-#[derive(Clone, Copy)]
+#[derive(Clone, Copy, Debug, PartialEq, Eq)]
 pub enum ScanningFault {
     Blank,
     NoWatch,
@@ -49,7 +53,7 @@ pub enum ScanningFault {
 }
 
 // Searching.
-#[derive(Clone, Copy)]
+#[derive(Clone, Copy, Debug, PartialEq, Eq)]
 pub enum SearchingFault {
     Blank,
     NoStart,
@@ -59,14 +63,14 @@ pub enum SearchingFault {
 }
 
 // Loading: a line that breaks its form, or one that finds no room.
-#[derive(Clone, Copy)]
+#[derive(Clone, Copy, Debug, PartialEq, Eq)]
 pub enum TableFault {
     Form,
     NoRoom,
 }
 
 // Loading: what the layer said that refused a line.
-#[derive(Clone, Copy)]
+#[derive(Clone, Copy, Debug, PartialEq, Eq)]
 pub enum LineFault {
     Names(NamesFault),
     Sheet(SheetFault),
@@ -74,91 +78,75 @@ pub enum LineFault {
 }
 
 // Loading: the line, from 1, and what was said of it.
-#[derive(Clone, Copy)]
+#[derive(Clone, Copy, Debug, PartialEq, Eq)]
 pub struct FileFault {
     pub line: usize,
     pub fault: LineFault,
 }
 
 // Fitting: asked of the stuck layer.
-#[derive(Clone, Copy)]
+#[derive(Clone, Copy, Debug, PartialEq, Eq)]
 pub enum FittingFault {
     TooLarge,
 }
 
-impl NamesFault {
-    pub fn number(self) -> u8
-        ensures { result ≡ number_of_names self }
-    {
+// A refusal: its number is what is printed of it.
+pub trait Refusal {
+    ghost number_of: { Self → ℕ };
+
+    fn number(self) -> u8
+        ensures { result ≡ number_of self };
+
+    ghost numbers_in_use: { (x : Self) → (1 ≤ number_of x) × (number_of x ≤ 20) };
+}
+
+impl Refusal for NamesFault {
+    ghost number_of = { number_of_names };
+
+    ghost numbers_in_use = { Prim.search rules };
+
+    fn number(self) -> u8 {
         match self {
             NamesFault::Unfit => 1,
         }
     }
 }
 
-impl RuleFault {
-    pub fn number(self) -> u8
-        ensures { result ≡ number_of_rule self }
-    {
-        match self {
-            RuleFault::WrongWord { place: _ } => 2,
-            RuleFault::WordWanted { place: _ } => 3,
-            RuleFault::BytesFollow { place: _ } => 4,
-            RuleFault::TooDeep { place: _ } => 5,
-        }
-    }
+impl Refusal for RuleFault {
+    ghost number_of = { number_of_rule };
 
-    pub fn place(self) -> usize
-        ensures { result ≡ place_of_rule self }
-    {
+    ghost numbers_in_use = { Prim.search rules };
+
+    fn number(self) -> u8 {
         match self {
-            RuleFault::WrongWord { place } => place,
-            RuleFault::WordWanted { place } => place,
-            RuleFault::BytesFollow { place } => place,
-            RuleFault::TooDeep { place } => place,
+            RuleFault::WrongWord { .. } => 2,
+            RuleFault::WordWanted { .. } => 3,
+            RuleFault::BytesFollow { .. } => 4,
+            RuleFault::TooDeep { .. } => 5,
         }
     }
 }
 
-impl SheetFault {
-    pub fn number(self) -> u8
-        ensures { result ≡ number_of_sheet self }
-    {
+impl Refusal for SheetFault {
+    ghost number_of = { number_of_sheet };
+
+    ghost numbers_in_use = { Prim.search rules };
+
+    fn number(self) -> u8 {
         match self {
             SheetFault::Rule(e) => e.number(),
             SheetFault::OverKept => 6,
             SheetFault::SheetFull => 7,
         }
     }
-
-    pub fn place(self) -> usize
-        ensures { result ≡ place_of_sheet self }
-    {
-        match self {
-            SheetFault::Rule(e) => e.place(),
-            SheetFault::OverKept => 0,
-            SheetFault::SheetFull => 0,
-        }
-    }
 }
 
-impl SheetFault {
-    // The layer that refuses: the rule's text, or the sheet.
-    pub fn layer(self) -> &'static str
-        ensures { result.now ≡ layer_of_sheet self }
-    {
-        match self {
-            SheetFault::Rule(_) => "rule",
-            SheetFault::OverKept => "sheet",
-            SheetFault::SheetFull => "sheet",
-        }
-    }
-}
+impl Refusal for FillingFault {
+    ghost number_of = { number_of_filling };
 
-impl FillingFault {
-    pub fn number(self) -> u8
-        ensures { result ≡ number_of_filling self }
-    {
+    ghost numbers_in_use = { Prim.search rules };
+
+    fn number(self) -> u8 {
         match self {
             FillingFault::NoRule => 8,
             FillingFault::LabelsExceed => 9,
@@ -167,20 +155,24 @@ impl FillingFault {
     }
 }
 
-impl BeginningFault {
-    pub fn number(self) -> u8
-        ensures { result ≡ number_of_beginning self }
-    {
+impl Refusal for BeginningFault {
+    ghost number_of = { number_of_beginning };
+
+    ghost numbers_in_use = { Prim.search rules };
+
+    fn number(self) -> u8 {
         match self {
             BeginningFault::Blank => 11,
         }
     }
 }
 
-impl ScanningFault {
-    pub fn number(self) -> u8
-        ensures { result ≡ number_of_scanning self }
-    {
+impl Refusal for ScanningFault {
+    ghost number_of = { number_of_scanning };
+
+    ghost numbers_in_use = { Prim.search rules };
+
+    fn number(self) -> u8 {
         match self {
             ScanningFault::Blank => 11,
             ScanningFault::NoWatch => 12,
@@ -189,10 +181,12 @@ impl ScanningFault {
     }
 }
 
-impl SearchingFault {
-    pub fn number(self) -> u8
-        ensures { result ≡ number_of_searching self }
-    {
+impl Refusal for SearchingFault {
+    ghost number_of = { number_of_searching };
+
+    ghost numbers_in_use = { Prim.search rules };
+
+    fn number(self) -> u8 {
         match self {
             SearchingFault::Blank => 11,
             SearchingFault::NoStart => 14,
@@ -203,10 +197,12 @@ impl SearchingFault {
     }
 }
 
-impl TableFault {
-    pub fn number(self) -> u8
-        ensures { result ≡ number_of_table self }
-    {
+impl Refusal for TableFault {
+    ghost number_of = { number_of_table };
+
+    ghost numbers_in_use = { Prim.search rules };
+
+    fn number(self) -> u8 {
         match self {
             TableFault::Form => 18,
             TableFault::NoRoom => 19,
@@ -214,29 +210,76 @@ impl TableFault {
     }
 }
 
-impl LineFault {
-    pub fn number(self) -> u8
-        ensures { result ≡ number_of_line_fault self }
-    {
+impl Refusal for LineFault {
+    ghost number_of = { number_of_line_fault };
+
+    ghost numbers_in_use = { Prim.search rules };
+
+    fn number(self) -> u8 {
         match self {
             LineFault::Names(e) => e.number(),
             LineFault::Sheet(e) => e.number(),
             LineFault::Table(e) => e.number(),
         }
     }
+}
 
+impl Refusal for FittingFault {
+    ghost number_of = { number_of_fitting };
+
+    ghost numbers_in_use = { Prim.search rules };
+
+    fn number(self) -> u8 {
+        match self {
+            FittingFault::TooLarge => 20,
+        }
+    }
+}
+
+impl RuleFault {
     pub fn place(self) -> usize
-        ensures { result ≡ place_of_line_fault self }
+        ensures { result ≡ place_of_rule self }
     {
         match self {
-            LineFault::Names(_) => 0,
-            LineFault::Sheet(e) => e.place(),
-            LineFault::Table(_) => 0,
+            RuleFault::WrongWord { place }
+            | RuleFault::WordWanted { place }
+            | RuleFault::BytesFollow { place }
+            | RuleFault::TooDeep { place } => place,
+        }
+    }
+}
+
+impl SheetFault {
+    pub fn place(self) -> usize
+        ensures { result ≡ place_of_sheet self }
+    {
+        match self {
+            SheetFault::Rule(e) => e.place(),
+            SheetFault::OverKept | SheetFault::SheetFull => 0,
+        }
+    }
+
+    // The layer that refuses: the rule's text, or the sheet.
+    pub fn layer(self) -> &'static str
+        ensures { result.now ≡ layer_of_sheet self }
+    {
+        match self {
+            SheetFault::Rule(_) => "rule",
+            SheetFault::OverKept | SheetFault::SheetFull => "sheet",
         }
     }
 }
 
 impl LineFault {
+    pub fn place(self) -> usize
+        ensures { result ≡ place_of_line_fault self }
+    {
+        match self {
+            LineFault::Names(_) | LineFault::Table(_) => 0,
+            LineFault::Sheet(e) => e.place(),
+        }
+    }
+
     // The layer that refuses the line.
     pub fn layer(self) -> &'static str
         ensures { result.now ≡ layer_of_line_fault self }
@@ -249,12 +292,15 @@ impl LineFault {
     }
 }
 
-impl FittingFault {
-    pub fn number(self) -> u8
-        ensures { result ≡ number_of_fitting self }
-    {
-        match self {
-            FittingFault::TooLarge => 20,
-        }
+// What is printed for a refused file.
+impl fmt::Display for FileFault {
+    ghost output = { λ x. Some (fault_text x) };
+
+    fn fmt<W: fmt::Write>(&self, f: &mut fmt::Formatter<W>) -> fmt::Result {
+        let FileFault { line, fault } = *self;
+        let layer = fault.layer();
+        let number = fault.number();
+        let place = fault.place();
+        write!(f, "file,refused,{line},{layer},{number},{place}")
     }
 }

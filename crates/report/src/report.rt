@@ -4,14 +4,14 @@ ghost use Rattle.meaning.specs.declared.refusals.LineFault.TheVariants.{Table as
 ghost use Rattle.meaning.specs.declared.refusals.TableFault.TheVariants.{NoRoom};
 ghost use Rattle.meaning.specs.Printed.{fault_line};
 
-use crate::text::{broken_line, clear_line, fault_line, refused_line};
+use crate::text::{RuleLine, Said, fault_line};
 use breaches::find::find_breach;
 use charts::chart::Chart;
 use loading::load::load;
 use machines::records::{State, Step};
 use machines::table::Table;
 use meaning::answers::Verdict;
-use meaning::refusals::{FileFault, LineFault, TableFault};
+use meaning::refusals::{FileFault, LineFault, Refusal, TableFault};
 use pairs::pair::Pair;
 use rules::sheet::Sheet;
 use std::alloc::{AllocError, Global};
@@ -19,29 +19,32 @@ use std::alloc::{AllocError, Global};
 // How long a file may be.
 const FILE_ROOM: usize = 8192;
 
-// The line of a rule with a filled chart.
-fn breach_line(
+// Writes the line of a rule with a filled chart.
+fn write_look(
+    text: &mut String,
     heap: Global,
     rule: usize,
     chart: &Chart,
     table: &Table,
-) -> Result<String, AllocError> {
+) -> Result<(), AllocError> {
     let mut pairs = vec![in heap; Pair::BLANK; 1024]?;
     let mut walk = vec![in heap; 0; 1025]?;
-    match find_breach(chart, table, pairs.as_mut_slice(), walk.as_mut_slice()) {
-        Ok(Verdict::Shown { states }) => broken_line(heap, rule, &walk.as_slice()[0..states]),
-        Ok(Verdict::Clear { pairs: count }) => clear_line(heap, rule, count),
-        Err(fault) => refused_line(heap, rule, fault.number()),
-    }
+    let said = match find_breach(chart, table, pairs.as_mut_slice(), walk.as_mut_slice()) {
+        Ok(Verdict::Shown { states }) => Said::Broken(&walk[..states]),
+        Ok(Verdict::Clear { pairs }) => Said::Clear(pairs),
+        Err(fault) => Said::Refused(fault.number()),
+    };
+    RuleLine { rule, said }.write_to(text)
 }
 
-// The line of a rule: a new chart is filled with it, and gone by if that is accepted.
-fn rule_line(
+// Writes the line of a rule: a new chart is filled with it, and gone by if that is accepted.
+fn write_rule(
+    text: &mut String,
     heap: Global,
     sheet: &Sheet,
     table: &Table,
     rule: usize,
-) -> Result<String, AllocError> {
+) -> Result<(), AllocError> {
     let mut labels = vec![in heap; 0; 512]?;
     let mut standings = vec![in heap; [0; 8]; 32]?;
     let mut next = vec![in heap; 0; 8192]?;
@@ -51,19 +54,12 @@ fn rule_line(
         next.as_mut_slice(),
     );
     match chart.fill(sheet, rule) {
-        Ok(_) => breach_line(heap, rule, &chart, table),
-        Err(fault) => refused_line(heap, rule, fault.number()),
+        Ok(_) => write_look(text, heap, rule, &chart, table),
+        Err(fault) => {
+            let said = Said::Refused(fault.number());
+            RuleLine { rule, said }.write_to(text)
+        }
     }
-}
-
-// The lines of all rules.
-fn rule_lines(heap: Global, sheet: &Sheet, table: &Table) -> Result<String, AllocError> {
-    let mut text = String::new(heap);
-    for rule in 0..sheet.rule_count() {
-        let line = rule_line(heap, sheet, table, rule)?;
-        text.push_str(line.as_str())?;
-    }
-    Ok(text)
 }
 
 // The report of a file that is not too long: the lines of its rules, or the one line that refuses it.
@@ -72,10 +68,14 @@ fn report_short(heap: Global, file: &[u8]) -> Result<String, AllocError> {
     let mut steps = vec![in heap; Step::BLANK; 1024]?;
     let mut sheet = Sheet::new();
     let mut table = Table::new(states.as_mut_slice(), steps.as_mut_slice());
-    match load(&mut sheet, &mut table, file) {
-        Ok(_) => rule_lines(heap, &sheet, &table),
-        Err(fault) => fault_line(heap, fault),
+    if let Err(fault) = load(&mut sheet, &mut table, file) {
+        return fault_line(heap, fault);
     }
+    let mut text = String::new(heap);
+    for rule in 0..sheet.rule_count() {
+        write_rule(&mut text, heap, &sheet, &table, rule)?;
+    }
+    Ok(text)
 }
 
 // What the program prints for a file.
@@ -83,13 +83,11 @@ pub fn report(heap: Global, file: &[u8]) -> Result<String, AllocError>
     ensures long { IfOk result (λ s. 8192 < length file.now → string_bytes s ≡ fault_line (record { line = 0; fault = Table-fault NoRoom })) }
 {
     if file.len() > FILE_ROOM {
-        return fault_line(
-            heap,
-            FileFault {
-                line: 0,
-                fault: LineFault::Table(TableFault::NoRoom),
-            },
-        );
+        let fault = FileFault {
+            line: 0,
+            fault: LineFault::Table(TableFault::NoRoom),
+        };
+        return fault_line(heap, fault);
     }
     report_short(heap, file)
 }

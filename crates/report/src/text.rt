@@ -1,45 +1,70 @@
 // The lines that are printed.
-ghost use Rattle.std.specs.Prelude.{◌≡◌, ◌++◌, length, IfOk, string_bytes, codes};
-ghost use Rattle.meaning.specs.Printed.{field, fields, fault_line, rule_line};
+ghost use Rattle.std.specs.Prelude.{◌≡◌, Some, ◌++◌, length, codes, IfOk, string_bytes};
+ghost use Rattle.std.specs.Fmt.{WritesOnOk};
+ghost use Rattle.meaning.specs.Printed.{field, fields, fault_line, rule_line, rule_text};
+ghost use Rattle.report.specs.Said.{said_text};
 
 use meaning::refusals::FileFault;
 use std::alloc::{AllocError, Global};
+use std::fmt;
+use std::fmt::Write;
 
 // The one line of a refused file.
 pub(crate) fn fault_line(heap: Global, refused: FileFault) -> Result<String, AllocError>
     ensures { IfOk result (λ s. string_bytes s ≡ fault_line refused) }
 {
-    let line = refused.line;
-    let layer = refused.fault.layer();
-    let number = refused.fault.number();
-    let place = refused.fault.place();
-    format!(in heap; "file,refused,{line},{layer},{number},{place}\n")
+    format!(in heap; "{refused}\n")
 }
 
-// The line of a rule that was refused.
-pub(crate) fn refused_line(heap: Global, rule: usize, number: u8) -> Result<String, AllocError>
-    ensures { IfOk result (λ s. string_bytes s ≡ rule_line rule (codes ",refused" ++ field number)) }
-{
-    format!(in heap; "rule,{rule},refused,{number}\n")
+// What is said of a rule: the walk that breaks it, or of how many pairs it is clear, or the number of the refusal.
+#[derive(Clone, Copy)]
+pub(crate) enum Said<'a> {
+    Broken(&'a [usize]),
+    Clear(usize),
+    Refused(u8),
 }
 
-// The line of a rule that no walk breaks.
-pub(crate) fn clear_line(heap: Global, rule: usize, pairs: usize) -> Result<String, AllocError>
-    ensures { IfOk result (λ s. string_bytes s ≡ rule_line rule (codes ",clear" ++ field pairs)) }
-{
-    format!(in heap; "rule,{rule},clear,{pairs}\n")
+// What is said of which rule.
+#[derive(Clone, Copy)]
+pub(crate) struct RuleLine<'a> {
+    pub(crate) rule: usize,
+    pub(crate) said: Said<'a>,
 }
 
-// The line of a rule that the walk breaks.
-pub(crate) fn broken_line(heap: Global, rule: usize, walk: &[usize]) -> Result<String, AllocError>
-    ensures { IfOk result (λ s. string_bytes s ≡ rule_line rule (codes ",broken" ++ (field (length walk.now) ++ fields walk.now))) }
+impl RuleLine<'_> {
+    // Writes the line behind a text.
+    pub(crate) fn write_to(&self, text: &mut String) -> Result<(), AllocError>
+        ensures { IfOk result (λ _. string_bytes text.new ≡ string_bytes text.old ++ rule_line self.now.rule (said_text self.now.said)) }
+    {
+        writeln!(text, "{self}")
+    }
+}
+
+impl fmt::Display for RuleLine<'_> {
+    ghost output = { λ x. Some (rule_text x.rule (said_text x.said)) };
+
+    fn fmt<W: fmt::Write>(&self, f: &mut fmt::Formatter<W>) -> fmt::Result {
+        let rule = self.rule;
+        match self.said {
+            Said::Broken(walk) => write_broken(f, rule, walk),
+            Said::Clear(pairs) => write!(f, "rule,{rule},clear,{pairs}"),
+            Said::Refused(number) => write!(f, "rule,{rule},refused,{number}"),
+        }
+    }
+}
+
+// Writes that a walk breaks the rule.
+fn write_broken<W: fmt::Write>(
+    f: &mut fmt::Formatter<W>,
+    rule: usize,
+    walk: &[usize],
+) -> fmt::Result
+    ensures { WritesOnOk W.write_str_gives f.old result (rule_text rule (codes ",broken" ++ (field (length walk.now) ++ fields walk.now))) f.new }
 {
     let states = walk.len();
-    let mut line = format!(in heap; "rule,{rule},broken,{states}")?;
+    write!(f, "rule,{rule},broken,{states}")?;
     for state in walk {
-        let more = format!(in heap; ",{state}")?;
-        line.push_str(more.as_str())?;
+        write!(f, ",{state}")?;
     }
-    line.push_str("\n")?;
-    Ok(line)
+    Ok(())
 }

@@ -1,7 +1,9 @@
-#![tactic(auto)]
-
 // Tests of single calls, above all of the refusals that no file can bring about.
 // Nothing stands on it.
+#![tactic(auto)]
+
+#[cfg(test)]
+mod areas;
 #[cfg(test)]
 mod charts_and_watches;
 #[cfg(test)]

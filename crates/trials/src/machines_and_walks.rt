@@ -1,62 +1,53 @@
 // Rounds and stuck layers, and what is refused before a machine is looked at.
+use crate::areas::{Areas, numbered, sheet_of};
 use breaches::find::find_breach;
 use charts::chart::Chart;
 use machines::machine::Machine;
 use machines::round::Round;
 use machines::stuck::StuckLayer;
 use meaning::answers::Verdict;
+use meaning::refusals::SearchingFault;
 use pairs::pair::Pair;
-use rules::sheet::Sheet;
-use std::alloc::Global;
+use std::alloc::{AllocError, Global};
 use std::test::Fail;
 
-// The number of states of a shortest breach, 1000 more than the number of pairs where it is clear, or 2000 more than the refusal's number.
-fn looked<M: Machine>(
+// Looks for a breach of a round with room for so many pairs and a walk of so many states.
+fn look(
     heap: Global,
     chart: &Chart,
-    machine: &M,
+    letters: &[u8],
     pairs: usize,
     walk: usize,
-) -> Result<usize, Fail> {
-    let mut pair_area = vec![in heap; Pair::BLANK; pairs]?;
-    let mut walk_area = vec![in heap; 0; walk]?;
-    match find_breach(
-        chart,
-        machine,
-        pair_area.as_mut_slice(),
-        walk_area.as_mut_slice(),
-    ) {
-        Ok(Verdict::Shown { states }) => Ok(states),
-        Ok(Verdict::Clear { pairs }) => Ok(pairs.saturating_add(1000)),
-        Err(fault) => Ok((fault.number() as usize).saturating_add(2000)),
-    }
+) -> Result<Result<Verdict, SearchingFault>, AllocError> {
+    let mut pairs = vec![in heap; Pair::BLANK; pairs]?;
+    let mut walk = vec![in heap; 0; walk]?;
+    let round = Round::new(letters);
+    Ok(find_breach(chart, &round, pairs.as_mut_slice(), walk.as_mut_slice()))
 }
 
 #[test]
 fn what_is_refused_before_looking(rt: HostRuntime) -> Result<(), Fail> {
     let heap = rt.alloc();
-    let mut sheet = Sheet::new();
-    assert!(rt; sheet.open(b"stop,full").is_ok() && sheet.enter(b"G ! & stop full").is_ok());
-    let mut labels = vec![in heap; 0; 8]?;
-    let mut standings = vec![in heap; [0; 8]; 3]?;
-    let mut next = vec![in heap; 0; 768]?;
-    let mut chart = Chart::new(
-        labels.as_mut_slice(),
-        standings.as_mut_slice(),
-        next.as_mut_slice(),
-    );
-    let letters = vec![in heap; 0u8; 65537]?;
-    let long = Round::new(letters.as_slice());
-    assert_eq!(rt; looked(heap, &chart, &Round::new(b""), 4, 4)?, 2011);
+    let sheet = sheet_of(b"G ! & stop full")?;
+    let mut areas = Areas::new(heap, 8, 3, 768)?;
+    let mut chart = areas.chart();
+    let long = vec![in heap; 0u8; 65537]?;
+    assert_eq!(rt; numbered(look(heap, &chart, b"", 4, 4)?), Err(11));
     assert!(rt; chart.fill(&sheet, 0).is_ok());
-    assert_eq!(rt; looked(heap, &chart, &Round::new(b""), 4, 4)?, 2014);
-    assert_eq!(rt; looked(heap, &chart, &long, 4, 4)?, 2015);
-    assert_eq!(rt; looked(heap, &chart, &Round::new(b"\x00"), 4, 4)?, 2016);
-    assert_eq!(rt; looked(heap, &chart, &Round::new(b"\x00"), 0, 1)?, 2017);
-    assert_eq!(rt; looked(heap, &chart, &Round::new(b"\x00"), 1, 2)?, 1001);
+    assert_eq!(rt; numbered(look(heap, &chart, b"", 4, 4)?), Err(14));
     assert_eq!(rt;
-        looked(heap, &chart, &Round::new(b"\x03"), 0, 1)?,
-        1,
+        numbered(look(heap, &chart, long.as_slice(), 4, 4)?),
+        Err(15)
+    );
+    assert_eq!(rt; numbered(look(heap, &chart, b"\x00", 4, 4)?), Err(16));
+    assert_eq!(rt; numbered(look(heap, &chart, b"\x00", 0, 1)?), Err(17));
+    assert_eq!(rt;
+        look(heap, &chart, b"\x00", 1, 2)?,
+        Ok(Verdict::Clear { pairs: 1 })
+    );
+    assert_eq!(rt;
+        look(heap, &chart, b"\x03", 0, 1)?,
+        Ok(Verdict::Shown { states: 1 }),
         "room 0 still shows a start that is a breach"
     );
     Ok(())
@@ -65,8 +56,9 @@ fn what_is_refused_before_looking(rt: HostRuntime) -> Result<(), Fail> {
 #[test]
 fn piles_of_stuck_layers(rt: HostRuntime) {
     let round = Round::new(b"\x00\x02");
-    assert!(rt;
-        StuckLayer::new(&round, 8).fitting().is_err(),
+    assert_eq!(rt;
+        numbered(StuckLayer::new(&round, 8).fitting()),
+        Err(20),
         "signal 8 does not fit"
     );
     assert_eq!(rt; StuckLayer::new(&round, 8).count(), 0);
