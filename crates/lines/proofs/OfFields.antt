@@ -109,31 +109,6 @@ pub two_is : (t : Text) (x : Bor Text × Bor Text) (o r : Option (Bor Text × Bo
 two_is t x None r p q e = rw e (p.0 ∙ ap (λ ps. x.0.now ∷ ps) q)
 two_is t x (Some y) r p q e = rw e (λ a b h. parted_some 44 y.1.now (let p' = p.0 in let q' = q.0 in cc))
 
--- a first field k, with no comma in it
-abbrev apart : Text → Type 0
-apart [] = Unit {0}
-apart (b ∷ bs) = (eqb b 44 ≡ false) × apart bs
-
-after_parted : (k t rest : Text) → apart k → after (k ++ (44 ∷ [])) t ≡ Some rest → parted 44 t ≡ k ∷ parted 44 rest
-after_parted [] [] rest n e = cc
-after_parted [] (b ∷ bs) rest n e = ways (eqb b 44) e
-  where
-    ways : (x : Bool) → cond x (Some bs) None ≡ Some rest → cond x ([] ∷ parted 44 bs) (before_first b (parted 44 bs)) ≡ [] ∷ parted 44 rest
-    ways true e = let q : bs ≡ rest = cc in ap (λ (r : Text). [] ∷ parted 44 r) q
-    ways false e = cc
-after_parted (k ∷ ks) [] rest n e = cc
-after_parted (k ∷ ks) (b ∷ bs) rest n e = ways (after_parted ks bs rest n.1) (eqb_tells b k)
-  where
-    ways : (after (ks ++ (44 ∷ [])) bs ≡ Some rest → parted 44 bs ≡ ks ∷ parted 44 rest) → ((eqb b k ≡ true) × (b ≡ k)) ⊎ ((eqb b k ≡ false) × (b ≡ k → ⊥)) → cond (eqb b 44) ([] ∷ parted 44 bs) (before_first b (parted 44 bs)) ≡ (k ∷ ks) ∷ parted 44 rest
-    ways go (inl p) =
-        let f : after (ks ++ (44 ∷ [])) bs ≡ Some rest = simp p.0 at e in
-        let ih = go f in
-        let c : eqb b 44 ≡ false = ap (λ x. eqb x 44) p.1 ∙ n.0 in
-        simp (p.1, n.0, ih)
-    ways go (inr p) =
-        let f : ◌≡◌ {A = Option Text} None (Some rest) = simp p.0 at e in
-        cc
-
 -- what stands before the first of two parts or more
 abbrev Follows : Text → Text → Type 0
 Follows p t = (rest : Text) × (after p t ≡ Some rest)
