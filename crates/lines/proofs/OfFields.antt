@@ -1,14 +1,15 @@
 use Rattle.std.proofs.Common.{◌≡◌, ℕ, suc, ◌+◌, ◌-◌, ◌*◌, ◌<◌, ◌≤◌, min, Bool, true, false, cond, eqb, ◌⊎◌, List, [], ◌∷◌, ◌++◌, length, get_or, take, drop, Some, None, codes, Option, sym, refl, ap, ◌∙◌, subst, inl, inr, add-one, arith, length-drop, drop-cons, eq-eqb}
 use Rattle.std.proofs.lemmas.Slice.{between_to_end}
 use Rattle.std.proofs.lemmas.Bool.Decides.{nat_tests, leb_tells, eqb_tells}
-use Rattle.std.specs.Prelude.{MatchOption, nat_lt, position, is_none, leb, ◌==◌, ◌≢◌}
+use Rattle.std.specs.Prelude.{MatchOption, option_and_then, nat_lt, position, is_none, leb, ◌==◌, ◌≢◌}
 use Rattle.std.specs.List.{position_or_len}
 use Rattle.std.specs.Borrow.{Bor}
 use Rattle.std.specs.Str.{bytes_eq}
 use Rattle.meaning.specs.Bytes.{Text, parted, before_first, after, all, digit, value}
 use Rattle.meaning.specs.Files.{Entry, mapped, or_else, entry, of_fields, signals, rule}
 use Rattle.std.proofs.lemmas.List.Quantifiers.{position-Some}
-use Rattle.lines.specs.Fields.{Cut, Two, cap, figure, capped}
+use Rattle.lines.specs.declared.Entry.{Entry as CodeEntry}
+use Rattle.lines.specs.Fields.{Cut, Two, cap, figure, capped, shown}
 
 -- ---- what follows a word
 
@@ -109,6 +110,31 @@ pub two_is : (t : Text) (x : Bor Text × Bor Text) (o r : Option (Bor Text × Bo
 two_is t x None r p q e = rw e (p.0 ∙ ap (λ ps. x.0.now ∷ ps) q)
 two_is t x (Some y) r p q e = rw e (λ a b h. parted_some 44 y.1.now (let p' = p.0 in let q' = q.0 in cc))
 
+-- a first field k, with no comma in it
+abbrev apart : Text → Type 0
+apart [] = Unit {0}
+apart (b ∷ bs) = (eqb b 44 ≡ false) × apart bs
+
+after_parted : (k t rest : Text) → apart k → after (k ++ (44 ∷ [])) t ≡ Some rest → parted 44 t ≡ k ∷ parted 44 rest
+after_parted [] [] rest n e = cc
+after_parted [] (b ∷ bs) rest n e = ways (eqb b 44) e
+  where
+    ways : (x : Bool) → cond x (Some bs) None ≡ Some rest → cond x ([] ∷ parted 44 bs) (before_first b (parted 44 bs)) ≡ [] ∷ parted 44 rest
+    ways true e = let q : bs ≡ rest = cc in ap (λ (r : Text). [] ∷ parted 44 r) q
+    ways false e = cc
+after_parted (k ∷ ks) [] rest n e = cc
+after_parted (k ∷ ks) (b ∷ bs) rest n e = ways (after_parted ks bs rest n.1) (eqb_tells b k)
+  where
+    ways : (after (ks ++ (44 ∷ [])) bs ≡ Some rest → parted 44 bs ≡ ks ∷ parted 44 rest) → ((eqb b k ≡ true) × (b ≡ k)) ⊎ ((eqb b k ≡ false) × (b ≡ k → ⊥)) → cond (eqb b 44) ([] ∷ parted 44 bs) (before_first b (parted 44 bs)) ≡ (k ∷ ks) ∷ parted 44 rest
+    ways go (inl p) =
+        let f : after (ks ++ (44 ∷ [])) bs ≡ Some rest = simp p.0 at e in
+        let ih = go f in
+        let c : eqb b 44 ≡ false = ap (λ x. eqb x 44) p.1 ∙ n.0 in
+        simp (p.1, n.0, ih)
+    ways go (inr p) =
+        let f : ◌≡◌ {A = Option Text} None (Some rest) = simp p.0 at e in
+        cc
+
 -- what stands before the first of two parts or more
 abbrev Follows : Text → Text → Type 0
 Follows p t = (rest : Text) × (after p t ≡ Some rest)
@@ -163,16 +189,40 @@ none_fields t (k ∷ (a ∷ (b ∷ []))) e h g = let q = not_same t k a (codes "
 none_fields t (k ∷ (a ∷ (b ∷ (c ∷ [])))) e h g = let q = not_same t k a (codes "state") (b ∷ (c ∷ [])) e h in simp q
 none_fields t (k ∷ (a ∷ (b ∷ (c ∷ (d ∷ ds))))) e h g = refl
 
--- ---- a whole line
+-- ---- a whole line, by what follows its first word
 
-by_fields : (t : Text) → None ≡ after (codes "signals,") t → None ≡ after (codes "rule,") t → entry t ≡ of_fields (parted 44 t)
-by_fields t a b = skips (after (codes "signals,") t) (after (codes "rule,") t) a b
-  where
-    skips : (x y : Option Text) → None ≡ x → None ≡ y → or_else (mapped signals x) (or_else (mapped rule y) (of_fields (parted 44 t))) ≡ of_fields (parted 44 t)
-    skips None None p q = refl
-    skips None (Some y) p q = cc
-    skips (Some x) y p q = cc
+fields_after : (k t rest : Text) → apart k → after (k ++ (44 ∷ [])) t ≡ Some rest → of_fields (k ∷ parted 44 rest) ≡ of_fields (parted 44 t)
+fields_after k t rest n e = ap of_fields (sym (after_parted k t rest n e))
 
-pub no_line : (t : Text) → None ≡ after (codes "signals,") t → None ≡ after (codes "rule,") t → None ≡ after (codes "state,") t → None ≡ after (codes "step,") t
-    → ◌≡◌ {A = Option Entry} None (mapped capped (entry t))
-no_line t a b c d = ap (mapped capped) (none_fields t (parted 44 t) refl c d ∙ sym (by_fields t a b))
+-- entries with the first field k
+abbrev pub fields_of : Text → Option Text → Option Entry
+fields_of k o = option_and_then (λ r. of_fields (k ∷ parted 44 r)) o
+
+by_fields : (t : Text) (x y : Option Text) → after (codes "state,") t ≡ x → after (codes "step,") t ≡ y → (r s : Option CodeEntry) → mapped shown r ≡ mapped capped (fields_of (codes "state") x)
+    → MatchOption r (mapped shown s ≡ mapped capped (fields_of (codes "step") y)) (λ z. s ≡ Some z) → mapped shown s ≡ mapped capped (of_fields (parted 44 t))
+by_fields t (Some u) y i j (Some z) s a b = ap (mapped shown) b ∙ (a ∙ ap (mapped capped) (fields_after (codes "state") t u (refl, (refl, (refl, (refl, (refl, tt))))) i))
+by_fields t None y i j (Some z) s a b = cc
+by_fields t x (Some v) i j None s a b = b ∙ ap (mapped capped) (fields_after (codes "step") t v (refl, (refl, (refl, (refl, tt)))) j)
+by_fields t (Some u) None i j None s a b = b ∙ (a ∙ ap (mapped capped) (fields_after (codes "state") t u (refl, (refl, (refl, (refl, (refl, tt))))) i))
+by_fields t None None i j None s a b = b ∙ ap (mapped capped) (none_fields t (parted 44 t) refl (sym i) (sym j))
+
+by_words : (x y : Option Text) (u v f : Option Entry) (p q r s : Option CodeEntry) → mapped shown p ≡ mapped signals x → MatchOption p (mapped shown q ≡ mapped rule y) (λ z. q ≡ Some z)
+    → MatchOption q (mapped shown r ≡ mapped capped u) (λ z. r ≡ Some z) → MatchOption r (mapped shown s ≡ mapped capped v) (λ z. s ≡ Some z)
+    → (mapped shown r ≡ mapped capped u → mapped shown s ≡ mapped capped f) → mapped shown s ≡ mapped capped (or_else (mapped signals x) (or_else (mapped rule y) f))
+by_words (Some n) y u v f (Some p) (Some q) (Some r) s a b d e g = ap (mapped shown) (e ∙ (d ∙ b)) ∙ a
+by_words (Some n) y u v f (Some p) (Some q) None s a b d e g = cc
+by_words (Some n) y u v f (Some p) None r s a b d e g = cc
+by_words (Some n) y u v f None q r s a b d e g = cc
+by_words None y u v f (Some p) q r s a b d e g = cc
+by_words None (Some n) u v f None (Some q) (Some r) s a b d e g = ap (mapped shown) (e ∙ d) ∙ b
+by_words None (Some n) u v f None (Some q) None s a b d e g = cc
+by_words None (Some n) u v f None None r s a b d e g = cc
+by_words None None u v f None (Some q) r s a b d e g = cc
+by_words None None u v f None None r s a b d e g = g d
+
+-- one try after another
+pub line_said : (t : Text) (p q r s : Option CodeEntry) → mapped shown p ≡ mapped signals (after (codes "signals,") t)
+    → MatchOption p (mapped shown q ≡ mapped rule (after (codes "rule,") t)) (λ z. q ≡ Some z)
+    → MatchOption q (mapped shown r ≡ mapped capped (fields_of (codes "state") (after (codes "state,") t))) (λ z. r ≡ Some z)
+    → MatchOption r (mapped shown s ≡ mapped capped (fields_of (codes "step") (after (codes "step,") t))) (λ z. s ≡ Some z) → mapped shown s ≡ mapped capped (entry t)
+line_said t p q r s a b d e = by_words _ _ _ _ (of_fields (parted 44 t)) p q r s a b d e (λ x. by_fields t _ _ refl refl r s x e)

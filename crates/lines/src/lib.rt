@@ -111,13 +111,9 @@ fn step_entry(rest: &[u8]) -> Option<Entry<'_>>
 pub fn read(line: &[u8]) -> Option<Entry<'_>>
     ensures { mapped shown result ≡ mapped capped (entry line.now) }
 {
-    if let Some(names) = rest_after(line, b"signals,") {
-        Some(Entry::Signals(names))
-    } else if let Some(text) = rest_after(line, b"rule,") {
-        Some(Entry::Rule(text))
-    } else if let Some(rest) = rest_after(line, b"state,") {
-        state_entry(rest)
-    } else {
-        step_entry(rest_after(line, b"step,")?)
-    }
+    rest_after(line, b"signals,")
+        .map(Entry::Signals)
+        .or_else(|| rest_after(line, b"rule,").map(Entry::Rule))
+        .or_else(|| rest_after(line, b"state,").and_then(state_entry))
+        .or_else(|| rest_after(line, b"step,").and_then(step_entry))
 }

@@ -1,9 +1,16 @@
-use Rattle.std.proofs.Common.{ap, ◌∙◌}
-use Rattle.meaning.specs.Files.{mapped}
-use Rattle.lines.specs.Fields.{shown}
-use Rattle.lines.proofs.OfFields.{no_line}
+use Rattle.std.proofs.Common.{◌≡◌, codes, rules, Some}
+use Rattle.std.specs.Prelude.{MatchOption}
+use Rattle.meaning.specs.Bytes.{after}
+use Rattle.meaning.specs.Files.{mapped, signals, rule}
+use Rattle.lines.specs.Fields.{capped, shown}
+use Rattle.lines.proofs.OfFields.{fields_of, line_said}
 use Rattle.lines.proofs.read.Goals as goal
 
-pub returns-in_err-rest_after : goal.returns-in_err-rest_after
-returns-in_err-rest_after c =
-    ap (mapped shown) c.from_residual.ensures ∙ no_line c.args.line.now c.in_default.ensures c.in_default-rest_after.ensures c.in_default-rest_after-2.ensures c.in_err-rest_after.ensures
+pub returns : goal.returns
+returns c =
+    let t = c.args.line.now in
+    let a : mapped shown c.map.result ≡ mapped signals (after (codes "signals,") t) = search rules in
+    let b : MatchOption c.map.result (mapped shown c.or_else.result ≡ mapped rule (after (codes "rule,") t)) (λ x. c.or_else.result ≡ Some x) = search rules in
+    let d : MatchOption c.or_else.result (mapped shown c.or_else-2.result ≡ mapped capped (fields_of (codes "state") (after (codes "state,") t))) (λ x. c.or_else-2.result ≡ Some x) = search rules in
+    let e : MatchOption c.or_else-2.result (mapped shown c.or_else-3.result ≡ mapped capped (fields_of (codes "step") (after (codes "step,") t))) (λ x. c.or_else-3.result ≡ Some x) = search rules in
+    line_said t c.map.result c.or_else.result c.or_else-2.result c.or_else-3.result a b d e
