@@ -1,7 +1,7 @@
 use Rattle.std.proofs.Common.{◌≡◌, ℕ, suc, ◌+◌, ◌-◌, ◌*◌, ◌<◌, ◌≤◌, min, Bool, true, false, cond, eqb, ◌⊎◌, List, [], ◌∷◌, ◌++◌, length, get_or, take, drop, Some, None, codes, Option, sym, refl, ap, ◌∙◌, subst, inl, inr, add-one, arith, length-drop, drop-cons, eq-eqb}
 use Rattle.std.proofs.lemmas.Slice.{between_to_end}
 use Rattle.std.proofs.lemmas.Bool.Decides.{nat_tests, leb_tells, eqb_tells}
-use Rattle.std.specs.Prelude.{MatchOption, option_and_then, nat_lt, position, is_none, leb, ◌==◌, ◌≢◌}
+use Rattle.std.specs.Prelude.{MatchOption, nat_lt, position, is_none, leb, ◌==◌, ◌≢◌}
 use Rattle.std.specs.List.{position_or_len}
 use Rattle.std.specs.Borrow.{Bor}
 use Rattle.std.specs.Str.{bytes_eq}
@@ -9,7 +9,7 @@ use Rattle.meaning.specs.Bytes.{Text, parted, before_first, after, all, digit, v
 use Rattle.meaning.specs.Files.{Entry, mapped, or_else, entry, of_fields, signals, rule}
 use Rattle.std.proofs.lemmas.List.Quantifiers.{position-Some}
 use Rattle.lines.specs.declared.Entry.{Entry as CodeEntry}
-use Rattle.lines.specs.Fields.{Cut, Two, cap, figure, capped, shown}
+use Rattle.lines.specs.Fields.{Cut, Two, cap, figure, capped, fields_of, shown}
 
 -- ---- what follows a word
 
@@ -193,10 +193,6 @@ none_fields t (k ∷ (a ∷ (b ∷ (c ∷ (d ∷ ds))))) e h g = refl
 
 fields_after : (k t rest : Text) → apart k → after (k ++ (44 ∷ [])) t ≡ Some rest → of_fields (k ∷ parted 44 rest) ≡ of_fields (parted 44 t)
 fields_after k t rest n e = ap of_fields (sym (after_parted k t rest n e))
-
--- entries with the first field k
-abbrev pub fields_of : Text → Option Text → Option Entry
-fields_of k o = option_and_then (λ r. of_fields (k ∷ parted 44 r)) o
 
 by_fields : (t : Text) (x y : Option Text) → after (codes "state,") t ≡ x → after (codes "step,") t ≡ y → (r s : Option CodeEntry) → mapped shown r ≡ mapped capped (fields_of (codes "state") x)
     → MatchOption r (mapped shown s ≡ mapped capped (fields_of (codes "step") y)) (λ z. s ≡ Some z) → mapped shown s ≡ mapped capped (of_fields (parted 44 t))

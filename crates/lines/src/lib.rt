@@ -3,9 +3,9 @@
 #![tactic(auto)]
 
 ghost use Rattle.std.specs.Prelude.{◌≡◌, ℕ, ◌+◌, ◌-◌, ◌*◌, ◌<◌, ◌≤◌, List, [], ◌∷◌, ◌++◌, length, Some, None, codes, ◌==◌, position};
-ghost use Rattle.meaning.specs.Bytes.{after, number, parted};
-ghost use Rattle.meaning.specs.Files.{mapped, entry, of_fields};
-ghost use Rattle.lines.specs.Fields.{Cut, Two, Three, figure, cap, capped, shown};
+ghost use Rattle.meaning.specs.Bytes.{after, number};
+ghost use Rattle.meaning.specs.Files.{mapped, entry, signals, rule};
+ghost use Rattle.lines.specs.Fields.{Cut, Two, Three, figure, cap, capped, fields_of, shown};
 
 // What a line says; numbers above 65,536 are taken for 65,536.
 #[derive(Clone, Copy, Debug, PartialEq, Eq)]
@@ -79,16 +79,30 @@ pub fn read_number(text: &[u8]) -> Option<u32>
     }
 }
 
-// What follows the first word of a line.
-fn rest_after<'a>(line: &'a [u8], word: &[u8]) -> Option<&'a [u8]>
-    ensures { mapped (λ x. x.now) result ≡ after word.now line.now }
+fn signals_entry(line: &[u8]) -> Option<Entry<'_>>
+    ensures { mapped shown result ≡ mapped signals (after (codes "signals,") line.now) }
 {
-    line.strip_prefix(word)
+    match line {
+        [b's', b'i', b'g', b'n', b'a', b'l', b's', b',', names @ ..] => Some(Entry::Signals(names)),
+        _ => None,
+    }
 }
 
-fn state_entry(rest: &[u8]) -> Option<Entry<'_>>
-    ensures { mapped shown result ≡ mapped capped (of_fields (codes "state" ∷ parted 44 rest.now)) }
+fn rule_entry(line: &[u8]) -> Option<Entry<'_>>
+    ensures { mapped shown result ≡ mapped rule (after (codes "rule,") line.now) }
 {
+    match line {
+        [b'r', b'u', b'l', b'e', b',', text @ ..] => Some(Entry::Rule(text)),
+        _ => None,
+    }
+}
+
+fn state_entry(line: &[u8]) -> Option<Entry<'_>>
+    ensures { mapped shown result ≡ mapped capped (fields_of (codes "state") (after (codes "state,") line.now)) }
+{
+    let [b's', b't', b'a', b't', b'e', b',', rest @ ..] = line else {
+        return None;
+    };
     let (number, start, letter) = three(rest)?;
     Some(Entry::State {
         number: read_number(number)?,
@@ -97,9 +111,12 @@ fn state_entry(rest: &[u8]) -> Option<Entry<'_>>
     })
 }
 
-fn step_entry(rest: &[u8]) -> Option<Entry<'_>>
-    ensures { mapped shown result ≡ mapped capped (of_fields (codes "step" ∷ parted 44 rest.now)) }
+fn step_entry(line: &[u8]) -> Option<Entry<'_>>
+    ensures { mapped shown result ≡ mapped capped (fields_of (codes "step") (after (codes "step,") line.now)) }
 {
+    let [b's', b't', b'e', b'p', b',', rest @ ..] = line else {
+        return None;
+    };
     let (from, to) = two(rest)?;
     Some(Entry::Step {
         from: read_number(from)?,
@@ -111,9 +128,8 @@ fn step_entry(rest: &[u8]) -> Option<Entry<'_>>
 pub fn read(line: &[u8]) -> Option<Entry<'_>>
     ensures { mapped shown result ≡ mapped capped (entry line.now) }
 {
-    rest_after(line, b"signals,")
-        .map(Entry::Signals)
-        .or_else(|| rest_after(line, b"rule,").map(Entry::Rule))
-        .or_else(|| rest_after(line, b"state,").and_then(state_entry))
-        .or_else(|| rest_after(line, b"step,").and_then(step_entry))
+    signals_entry(line)
+        .or_else(|| rule_entry(line))
+        .or_else(|| state_entry(line))
+        .or_else(|| step_entry(line))
 }
