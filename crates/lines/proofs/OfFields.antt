@@ -1,54 +1,76 @@
-use Rattle.std.proofs.Common.{◌≡◌, ℕ, zero, suc, ◌+◌, ◌-◌, ◌*◌, ◌<◌, ◌≤◌, min, Bool, true, false, cond, eqb, ◌⊎◌, List, [], ◌∷◌, ◌++◌, length, get_or, take, drop, Some, None, codes, Option, sym, refl, ap, ◌∙◌, subst, inl, inr, add-one, arith, length-drop, length-take, drop-cons, eq-eqb, ne_eqb}
-use native.Mathlib.Nat.{sub-zero}
-use Rattle.std.proofs.lemmas.List.{drop_all}
-use Rattle.std.proofs.lemmas.Slice.Eq.{HasBytesAt}
+use Rattle.std.proofs.Common.{◌≡◌, ℕ, suc, ◌+◌, ◌-◌, ◌*◌, ◌<◌, ◌≤◌, min, Bool, true, false, cond, eqb, ◌⊎◌, List, [], ◌∷◌, ◌++◌, length, get_or, take, drop, Some, None, codes, Option, sym, refl, ap, ◌∙◌, subst, inl, inr, add-one, arith, length-drop, drop-cons, eq-eqb}
 use Rattle.std.proofs.lemmas.Slice.{between_to_end}
 use Rattle.std.proofs.lemmas.Bool.Decides.{nat_tests, leb_tells, eqb_tells}
+use Rattle.std.specs.Prelude.{MatchOption, nat_lt, position, is_none, leb, ◌==◌, ◌≢◌}
+use Rattle.std.specs.List.{position_or_len}
+use Rattle.std.specs.Borrow.{Bor}
 use Rattle.std.specs.Str.{bytes_eq}
-use Rattle.meaning.specs.Bytes.{Text, parted, before_first, after, all, digit, value, number}
-use Rattle.meaning.specs.Files.{Entry, state, mapped, or_else, with_number, entry, of_fields, signals, rule}
-use Rattle.lines.specs.Fields.{cap, figure, capped}
+use Rattle.meaning.specs.Bytes.{Text, parted, before_first, after, all, digit, value}
+use Rattle.meaning.specs.Files.{Entry, mapped, or_else, entry, of_fields, signals, rule}
+use Rattle.std.proofs.lemmas.List.Quantifiers.{position-Some}
+use Rattle.lines.specs.declared.Entry.{Entry as CodeEntry}
+use Rattle.lines.specs.Fields.{Cut, Two, cap, figure, capped, fields_of, shown}
 
--- ---- what a slice pattern of the bytes p and a rest leaves
+-- ---- what follows a word
 
-reads_tail : (x : ℕ) (xs p : List ℕ) (i : ℕ) → HasBytesAt (x ∷ xs) (suc i) p → HasBytesAt xs i p
-reads_tail x xs [] i r = tt
-reads_tail x xs (c ∷ p) i r = (r.0, reads_tail x xs p (suc i) r.1)
+after_front : (p t : Text) → after p (p ++ t) ≡ Some t
+after_front [] t = refl
+after_front (b ∷ p) t = let e : eqb b b ≡ true = eq-eqb b b refl in simp (e, after_front p t)
 
-after_drop : (p w : List ℕ) → length p ≤ length w → HasBytesAt w 0 p → after p w ≡ Some (drop (length p) w)
-after_drop [] w l r = refl
-after_drop (c ∷ p) [] l r = absurd (omega arith)
-after_drop (c ∷ p) (x ∷ xs) l r =
-    let e : eqb x c ≡ true = eq-eqb x c r.0 in
-    simp e (after_drop p xs (omega arith) (reads_tail x xs p 0 r.1))
+after_none : (p t : Text) → ((rest : Text) → t ≢ p ++ rest) → after p t ≡ None
+after_none [] t h = absurd (h t refl)
+after_none (b ∷ p) [] h = refl
+after_none (b ∷ p) (x ∷ t) h = elim (eqb_tells x b) [
+  | inl q ↦ (let ih = after_none p t (λ r e. h r (cc)) in simp (q.0, ih))
+  | inr q ↦ simp q.0
+]
 
-pub after_at : (p w : List ℕ) → length p ≤ length w → HasBytesAt w 0 p → after p w ≡ Some (take (length w - length p) (drop (length p) w))
-after_at p w l r = after_drop p w l r ∙ ap Some (sym (between_to_end w (length p) (length w) (omega arith)))
+pub after_is : (p t : Text) (r : Option (Bor Text)) → MatchOption r ((rest : Text) → t ≢ p ++ rest) (λ x. t ≡ p ++ x.now) → mapped (λ x. x.now) r ≡ after p t
+after_is p t None h = sym (after_none p t h)
+after_is p t (Some x) h = rw h (sym (after_front p x.now))
 
 -- ---- parts
 
-pub parted_none : (c : ℕ) (t : Text) → ((k : ℕ) → k < length t → get_or t k 0 ≡ c → ⊥) → parted c t ≡ t ∷ []
-parted_none c [] h = refl
-parted_none c (b ∷ bs) h =
-    let e : eqb b c ≡ false = ne_eqb b c (h 0 (omega arith)) in
-    let ih = parted_none c bs (λ k l. h (suc k) (omega arith)) in
-    simp (e, ih)
+before_ways : (b : ℕ) (t : Bool) (x y : Text) (xs : List Text) → before_first b (cond t (x ∷ xs) (y ∷ [])) ≡ cond t ((b ∷ x) ∷ xs) ((b ∷ y) ∷ [])
+before_ways b true x y xs = refl
+before_ways b false x y xs = refl
 
-parted_found : (c : ℕ) (t : Text) (i : ℕ) → i < length t → ((k : ℕ) → k < i → get_or t k 0 ≡ c → ⊥) → get_or t i 0 ≡ c → parted c t ≡ take i t ∷ parted c (drop (suc i) t)
-parted_found c [] i l h e = absurd (omega arith)
-parted_found c (b ∷ bs) zero l h e =
-    let q : eqb b c ≡ true = eq-eqb b c e in
-    simp q
-parted_found c (b ∷ bs) (suc i) l h e =
-    let q : eqb b c ≡ false = ne_eqb b c (h 0 (omega arith)) in
-    let ih = parted_found c bs i (omega arith) (λ k m. h (suc k) (omega arith)) e in
-    simp (q, ih)
+one_more : (i : ℕ) → 1 + i ≡ suc i
+one_more i = omega arith
 
-pub parted_at : (c : ℕ) (t : Text) (i : ℕ) → i < length t → ((k : ℕ) → k < i → get_or t k 0 ≡ c → ⊥) → get_or t i 0 ≡ c → parted c t ≡ take (i - 0) t ∷ parted c (take (length t - (i + 1)) (drop (i + 1) t))
-parted_at c t i l h e =
-    let p = parted_found c t i l h e in
-    let d = between_to_end t (i + 1) (length t) (omega arith) in
-    rw (d, add-one) (simp (sub-zero i) p)
+less_more : (i n : ℕ) → nat_lt (suc i) (suc n) ≡ nat_lt i n
+less_more i n = grind (arith, nat_tests)
+
+less_none : (n : ℕ) → nat_lt 0 (suc n) ≡ true
+less_none n = grind (arith, nat_tests)
+
+parted_by : (c : ℕ) (t : Text) → let i = position_or_len (λ b. eqb b c) t in parted c t ≡ cond (nat_lt i (length t)) (take i t ∷ parted c (drop (suc i) t)) (t ∷ [])
+parted_by c [] = refl
+parted_by c (b ∷ bs) =
+    let i = position_or_len (λ b. eqb b c) bs in
+    elim (eqb_tells b c) [
+      | inl q ↦ simp (q.0, less_none (length bs))
+      | inr q ↦ simp (q.0, one_more i, less_more i (length bs), parted_by c bs) (before_ways b (nat_lt i (length bs)) (take i bs) bs (parted c (drop (suc i) bs)))
+    ]
+
+none_ways : (b : Bool) (i : ℕ) (xs ys : List Text) → None ≡ cond b (Some i) None → cond b xs ys ≡ ys
+none_ways true i xs ys h = cc
+none_ways false i xs ys h = refl
+
+some_ways : (b : Bool) (i j : ℕ) → Some i ≡ cond b (Some j) None → (b ≡ true) × (j ≡ i)
+some_ways true i j h = (refl, cc)
+some_ways false i j h = cc
+
+pub uncut : (c : ℕ) (t : Text) → None ≡ position (λ b. b == c) t → parted c t ≡ t ∷ []
+uncut c t h = let i = position_or_len (λ b. eqb b c) t in parted_by c t ∙ none_ways (nat_lt i (length t)) i _ _ h
+
+pub cut_at : (c i : ℕ) (t : Text) → Some i ≡ position (λ b. b == c) t → let rest = take (length t - (i + 1)) (drop (i + 1) t) in (parted c t ≡ take i t ∷ parted c rest) × (length rest < length t)
+cut_at c i t h =
+    let j = position_or_len (λ b. eqb b c) t in
+    let l : i < length t = (position-Some (λ b. eqb b c) t i 0 (sym h)).0 in
+    let w = some_ways (nat_lt j (length t)) i j h in
+    let r : take (length t - (i + 1)) (drop (i + 1) t) ≡ drop (i + 1) t = between_to_end t (i + 1) (length t) (omega arith) in
+    rw (r, add-one) (rw (w.0, w.1) at (parted_by c t), omega (arith, length-drop (suc i) t))
 
 -- ---- numbers
 
@@ -56,80 +78,37 @@ grows : (n : ℕ) (t : Text) → n ≤ value n t
 grows n [] = omega arith
 grows n (b ∷ bs) = let ih = grows (n * 10 + (b - 48)) bs in omega arith
 
-large : (a b : ℕ) (t : Text) → 65536 ≤ a → 65536 ≤ b → cap (value a t) ≡ cap (value b t)
-large a b t p q = let x = grows a t in let y = grows b t in omega arith
-
-cap_step : (m : ℕ) (t : Text) → 65536 < m → figure m t ≡ figure 65536 t
-cap_step m t h = ap (λ x. cond (all digit t) (Some x) None) (large m 65536 t (omega arith) (omega arith))
-
-pub part_shorter : (t : Text) (i : ℕ) → i < length t → length (take (length t - (i + 1)) (drop (i + 1) t)) < length t
-part_shorter t i h = let a = length-take (length t - (i + 1)) (drop (i + 1) t) in let b = length-drop (i + 1) t in omega arith
-
-figure_bad : (n b : ℕ) (bs : Text) → digit b ≡ false → figure n (b ∷ bs) ≡ None
-figure_bad n b bs e = simp e
-
-figure_good : (n b : ℕ) (bs : Text) → digit b ≡ true → figure n (b ∷ bs) ≡ figure (n * 10 + (b - 48)) bs
-figure_good n b bs e = simp e
-
-is_digit : (b : ℕ) → 48 ≤ b → b ≤ 57 → digit b ≡ true
-is_digit b h k = grind (arith, nat_tests)
-
-no_digit : (b : ℕ) → (48 ≤ b → b ≤ 57 → ⊥) → digit b ≡ false
-no_digit b h = grind (arith, nat_tests)
-
--- a byte that is no digit ends it
-pub bad_step : (n : ℕ) (t : Text) (i : ℕ) (r : Option ℕ) → i < length t → figure n (drop i t) ≡ r → (48 ≤ get_or t i 0 → get_or t i 0 ≤ 57 → ⊥) → None ≡ r
-bad_step n t i r l h b =
-    let d : drop i t ≡ get_or t i 0 ∷ drop (suc i) t = drop-cons t i 0 l in
-    let e = ap (figure n) d in
-    let f = figure_bad n (get_or t i 0) (drop (suc i) t) (no_digit (get_or t i 0) b) in
-    sym (sym h ∙ (e ∙ f)) ∙ refl
+figure_cap : (n : ℕ) (t : Text) → figure (min 65536 n) t ≡ figure n t
+figure_cap n t = let x = grows n t in let y = grows (min 65536 n) t in ap (λ x. cond (all digit t) (Some x) None) (same t (leb_tells 65536 n))
+  where
+    same : (t : Text) → ((leb 65536 n ≡ true) × (65536 ≤ n)) ⊎ ((leb 65536 n ≡ false) × (n < 65536)) → cap (value (min 65536 n) t) ≡ cap (value n t)
+    same t (inl p) = let x = grows n t in let y = grows (min 65536 n) t in omega arith
+    same t (inr p) = let e : min 65536 n ≡ n = omega arith in ap (λ m. cap (value m t)) e
 
 -- one digit more, with the number cut where it is too large
-pub good_step : (n m : ℕ) (t : Text) (i : ℕ) (r : Option ℕ) → i < length t → figure n (drop i t) ≡ r → 48 ≤ get_or t i 0 → get_or t i 0 ≤ 57 → m ≡ min 65536 (n * 10 + (get_or t i 0 - 48)) → figure m (drop (i + 1) t) ≡ r
-good_step n m t i r l h p q e =
+pub next_digit : (n m : ℕ) (t : Text) (i : ℕ) → i < length t → 48 ≤ get_or t i 0 → get_or t i 0 ≤ 57 → m ≡ min 65536 (n * 10 + (get_or t i 0 - 48)) → figure m (drop (i + 1) t) ≡ figure n (drop i t)
+next_digit n m t i l p q e =
     let d : drop i t ≡ get_or t i 0 ∷ drop (suc i) t = drop-cons t i 0 l in
-    let f = figure_good n (get_or t i 0) (drop (suc i) t) (is_digit (get_or t i 0) p q) in
-    let g : figure n (drop i t) ≡ figure (n * 10 + (get_or t i 0 - 48)) (drop (suc i) t) = ap (figure n) d ∙ f in
-    let k = cut_figure (n * 10 + (get_or t i 0 - 48)) m (drop (suc i) t) e in
-    rw add-one (k ∙ (sym g ∙ h))
-  where
-    cut_figure : (x m : ℕ) (t : Text) → m ≡ min 65536 x → figure m t ≡ figure x t
-    cut_figure x m t e = elim (leb_tells 65537 x) [
-      | inl p ↦ (let z : m ≡ 65536 = omega (arith, p.1) in ap (λ y. figure y t) z ∙ sym (cap_step x t (omega (arith, p.1))))
-      | inr p ↦ (let z : m ≡ x = omega (arith, p.1) in ap (λ y. figure y t) z)
-    ]
-
--- ---- the end of the digits
-
-pub end_step : (n : ℕ) (t : Text) (i : ℕ) (r : Option ℕ) → length t ≤ i → n ≤ 65536 → figure n (drop i t) ≡ r → Some n ≡ r
-end_step n t i r l h e =
-    let d : drop i t ≡ [] = drop_all i t l in
-    let m : n ≡ cap n = omega arith in
-    ap Some m ∙ (sym (ap (figure n) d) ∙ e)
+    let g : digit (get_or t i 0) ≡ true = grind (arith, nat_tests) in
+    rw (d, add-one, e, figure_cap (n * 10 + (get_or t i 0 - 48)) (drop (suc i) t)) (simp g)
 
 -- ---- fields
 
 first_some : (b : ℕ) (ps : List Text) → before_first b ps ≡ [] → ⊥
-first_some b [] e = let z : ◌≡◌ {A = ℕ} 0 1 = cc in omega arith
-first_some b (p ∷ ps) e = let z : ◌≡◌ {A = ℕ} 0 1 = cc in omega arith
+first_some b [] e = cc
+first_some b (p ∷ ps) e = cc
 
 pub parted_some : (c : ℕ) (t : Text) → parted c t ≡ [] → ⊥
-parted_some c [] e = let z : ◌≡◌ {A = ℕ} 0 1 = cc in omega arith
+parted_some c [] e = cc
 parted_some c (b ∷ bs) e = ways (eqb b c) e
   where
     ways : (x : Bool) → cond x ([] ∷ parted c bs) (before_first b (parted c bs)) ≡ [] → ⊥
-    ways true e = let z : ◌≡◌ {A = ℕ} 0 1 = cc in omega arith
+    ways true e = cc
     ways false e = first_some b (parted c bs) e
 
-none3 : (x y z : Option ℕ) → None ≡ mapped cap z → ◌≡◌ {A = Option Entry} None (mapped capped (with_number x (λ n'. with_number y (λ s'. with_number z (λ a'. Some (state n' s' a'))))))
-none3 None y z h = refl
-none3 (Some n) None z h = refl
-none3 (Some n) (Some s) None h = refl
-none3 (Some n) (Some s) (Some a) h = let z : ◌≡◌ {A = ℕ} 0 1 = cc in absurd (omega arith)
-
-pub third_none : (ps : List Text) (a b c : Text) → ps ≡ a ∷ (b ∷ (c ∷ [])) → None ≡ mapped cap (number c) → ◌≡◌ {A = Option Entry} None (mapped capped (of_fields (codes "state" ∷ ps)))
-third_none ps a b c e h = rw e (none3 (number a) (number b) (number c) h)
+pub two_is : (t : Text) (x : Bor Text × Bor Text) (o r : Option (Bor Text × Bor Text)) → Cut 44 t (Some x) → Cut 44 x.1.now o → r ≡ cond (is_none o) (Some x) None → Two t r
+two_is t x None r p q e = rw e (p.0 ∙ ap (λ ps. x.0.now ∷ ps) q)
+two_is t x (Some y) r p q e = rw e (λ a b h. parted_some 44 y.1.now (let p' = p.0 in let q' = q.0 in cc))
 
 -- a first field k, with no comma in it
 abbrev apart : Text → Type 0
@@ -137,13 +116,13 @@ apart [] = Unit {0}
 apart (b ∷ bs) = (eqb b 44 ≡ false) × apart bs
 
 after_parted : (k t rest : Text) → apart k → after (k ++ (44 ∷ [])) t ≡ Some rest → parted 44 t ≡ k ∷ parted 44 rest
-after_parted [] [] rest n e = let z : ◌≡◌ {A = ℕ} 0 1 = cc in absurd (omega arith)
+after_parted [] [] rest n e = cc
 after_parted [] (b ∷ bs) rest n e = ways (eqb b 44) e
   where
     ways : (x : Bool) → cond x (Some bs) None ≡ Some rest → cond x ([] ∷ parted 44 bs) (before_first b (parted 44 bs)) ≡ [] ∷ parted 44 rest
     ways true e = let q : bs ≡ rest = cc in ap (λ (r : Text). [] ∷ parted 44 r) q
-    ways false e = let z : ◌≡◌ {A = ℕ} 0 1 = cc in absurd (omega arith)
-after_parted (k ∷ ks) [] rest n e = let z : ◌≡◌ {A = ℕ} 0 1 = cc in absurd (omega arith)
+    ways false e = cc
+after_parted (k ∷ ks) [] rest n e = cc
 after_parted (k ∷ ks) (b ∷ bs) rest n e = ways (after_parted ks bs rest n.1) (eqb_tells b k)
   where
     ways : (after (ks ++ (44 ∷ [])) bs ≡ Some rest → parted 44 bs ≡ ks ∷ parted 44 rest) → ((eqb b k ≡ true) × (b ≡ k)) ⊎ ((eqb b k ≡ false) × (b ≡ k → ⊥)) → cond (eqb b 44) ([] ∷ parted 44 bs) (before_first b (parted 44 bs)) ≡ (k ∷ ks) ∷ parted 44 rest
@@ -154,14 +133,14 @@ after_parted (k ∷ ks) (b ∷ bs) rest n e = ways (after_parted ks bs rest n.1)
         simp (p.1, n.0, ih)
     ways go (inr p) =
         let f : ◌≡◌ {A = Option Text} None (Some rest) = simp p.0 at e in
-        let z : ◌≡◌ {A = ℕ} 0 1 = cc in absurd (omega arith)
+        cc
 
 -- what stands before the first of two parts or more
 abbrev Follows : Text → Text → Type 0
 Follows p t = (rest : Text) × (after p t ≡ Some rest)
 
 front : (b : ℕ) (bs : Text) (ps qs : List Text) (k a : Text) → before_first b ps ≡ k ∷ (a ∷ qs) → ((p : Text) → ps ≡ p ∷ (a ∷ qs) → Follows (p ++ (44 ∷ [])) bs) → Follows (k ++ (44 ∷ [])) (b ∷ bs)
-front b bs [] qs k a e go = let z : ◌≡◌ {A = ℕ} 0 1 = cc in absurd (omega arith)
+front b bs [] qs k a e go = cc
 front b bs (p ∷ ps) qs k a e go =
     let x : b ∷ p ≡ k = cc in
     let y : p ∷ ps ≡ p ∷ (a ∷ qs) = cc in
@@ -171,7 +150,7 @@ front b bs (p ∷ ps) qs k a e go =
     subst (λ (u : Text). Follows (u ++ (44 ∷ [])) (b ∷ bs)) x (f.0, g)
 
 parted_after : (t k a : Text) (qs : List Text) → parted 44 t ≡ k ∷ (a ∷ qs) → Follows (k ++ (44 ∷ [])) t
-parted_after [] k a qs e = let z : ◌≡◌ {A = ℕ} 0 1 = cc in absurd (omega arith)
+parted_after [] k a qs e = cc
 parted_after (b ∷ bs) k a qs e = ways (parted_after bs) (eqb_tells b 44)
   where
     ways : ((k a : Text) (qs : List Text) → parted 44 bs ≡ k ∷ (a ∷ qs) → Follows (k ++ (44 ∷ [])) bs) → ((eqb b 44 ≡ true) × (b ≡ 44)) ⊎ ((eqb b 44 ≡ false) × (b ≡ 44 → ⊥)) → Follows (k ++ (44 ∷ [])) (b ∷ bs)
@@ -190,7 +169,7 @@ not_same t k a w qs e h =
     let x : k ≡ w = same_true k w s in
     let f = parted_after t k a qs e in
     let g : after (w ++ (44 ∷ [])) t ≡ Some f.0 = subst (λ (u : Text). after (u ++ (44 ∷ [])) t ≡ Some f.0) x f.1 in
-    let z : ◌≡◌ {A = ℕ} 0 1 = cc in omega arith)
+    cc)
   where
     bool_not : (b : Bool) → (b ≡ true → ⊥) → b ≡ false
     bool_not true h = absurd (h refl)
@@ -210,28 +189,36 @@ none_fields t (k ∷ (a ∷ (b ∷ []))) e h g = let q = not_same t k a (codes "
 none_fields t (k ∷ (a ∷ (b ∷ (c ∷ [])))) e h g = let q = not_same t k a (codes "state") (b ∷ (c ∷ [])) e h in simp q
 none_fields t (k ∷ (a ∷ (b ∷ (c ∷ (d ∷ ds))))) e h g = refl
 
--- ---- a whole line
+-- ---- a whole line, by what follows its first word
 
-by_fields : (t : Text) → None ≡ after (codes "signals,") t → None ≡ after (codes "rule,") t → entry t ≡ of_fields (parted 44 t)
-by_fields t a b = skips (after (codes "signals,") t) (after (codes "rule,") t) a b
-  where
-    skips : (x y : Option Text) → None ≡ x → None ≡ y → or_else (mapped signals x) (or_else (mapped rule y) (of_fields (parted 44 t))) ≡ of_fields (parted 44 t)
-    skips None None p q = refl
-    skips None (Some y) p q = let z : ◌≡◌ {A = ℕ} 0 1 = cc in absurd (omega arith)
-    skips (Some x) y p q = let z : ◌≡◌ {A = ℕ} 0 1 = cc in absurd (omega arith)
+fields_after : (k t rest : Text) → apart k → after (k ++ (44 ∷ [])) t ≡ Some rest → of_fields (k ∷ parted 44 rest) ≡ of_fields (parted 44 t)
+fields_after k t rest n e = ap of_fields (sym (after_parted k t rest n e))
 
-pub state_line : (t rest : Text) (r : Option Entry) → None ≡ after (codes "signals,") t → None ≡ after (codes "rule,") t → Some rest ≡ after (codes "state,") t
-    → r ≡ mapped capped (of_fields (codes "state" ∷ parted 44 rest)) → r ≡ mapped capped (entry t)
-state_line t rest r a b h e =
-    let p = after_parted (codes "state") t rest (refl, (refl, (refl, (refl, (refl, tt))))) (sym h) in
-    e ∙ ap (mapped capped) (sym (by_fields t a b ∙ ap of_fields p))
+by_fields : (t : Text) (x y : Option Text) → after (codes "state,") t ≡ x → after (codes "step,") t ≡ y → (r s : Option CodeEntry) → mapped shown r ≡ mapped capped (fields_of (codes "state") x)
+    → MatchOption r (mapped shown s ≡ mapped capped (fields_of (codes "step") y)) (λ z. s ≡ Some z) → mapped shown s ≡ mapped capped (of_fields (parted 44 t))
+by_fields t (Some u) y i j (Some z) s a b = ap (mapped shown) b ∙ (a ∙ ap (mapped capped) (fields_after (codes "state") t u (refl, (refl, (refl, (refl, (refl, tt))))) i))
+by_fields t None y i j (Some z) s a b = cc
+by_fields t x (Some v) i j None s a b = b ∙ ap (mapped capped) (fields_after (codes "step") t v (refl, (refl, (refl, (refl, tt)))) j)
+by_fields t (Some u) None i j None s a b = b ∙ (a ∙ ap (mapped capped) (fields_after (codes "state") t u (refl, (refl, (refl, (refl, (refl, tt))))) i))
+by_fields t None None i j None s a b = b ∙ ap (mapped capped) (none_fields t (parted 44 t) refl (sym i) (sym j))
 
-pub step_line : (t rest : Text) (r : Option Entry) → None ≡ after (codes "signals,") t → None ≡ after (codes "rule,") t → Some rest ≡ after (codes "step,") t
-    → r ≡ mapped capped (of_fields (codes "step" ∷ parted 44 rest)) → r ≡ mapped capped (entry t)
-step_line t rest r a b h e =
-    let p = after_parted (codes "step") t rest (refl, (refl, (refl, (refl, tt)))) (sym h) in
-    e ∙ ap (mapped capped) (sym (by_fields t a b ∙ ap of_fields p))
+by_words : (x y : Option Text) (u v f : Option Entry) (p q r s : Option CodeEntry) → mapped shown p ≡ mapped signals x → MatchOption p (mapped shown q ≡ mapped rule y) (λ z. q ≡ Some z)
+    → MatchOption q (mapped shown r ≡ mapped capped u) (λ z. r ≡ Some z) → MatchOption r (mapped shown s ≡ mapped capped v) (λ z. s ≡ Some z)
+    → (mapped shown r ≡ mapped capped u → mapped shown s ≡ mapped capped f) → mapped shown s ≡ mapped capped (or_else (mapped signals x) (or_else (mapped rule y) f))
+by_words (Some n) y u v f (Some p) (Some q) (Some r) s a b d e g = ap (mapped shown) (e ∙ (d ∙ b)) ∙ a
+by_words (Some n) y u v f (Some p) (Some q) None s a b d e g = cc
+by_words (Some n) y u v f (Some p) None r s a b d e g = cc
+by_words (Some n) y u v f None q r s a b d e g = cc
+by_words None y u v f (Some p) q r s a b d e g = cc
+by_words None (Some n) u v f None (Some q) (Some r) s a b d e g = ap (mapped shown) (e ∙ d) ∙ b
+by_words None (Some n) u v f None (Some q) None s a b d e g = cc
+by_words None (Some n) u v f None None r s a b d e g = cc
+by_words None None u v f None (Some q) r s a b d e g = cc
+by_words None None u v f None None r s a b d e g = g d
 
-pub no_line : (t : Text) → None ≡ after (codes "signals,") t → None ≡ after (codes "rule,") t → None ≡ after (codes "state,") t → None ≡ after (codes "step,") t
-    → ◌≡◌ {A = Option Entry} None (mapped capped (entry t))
-no_line t a b c d = ap (mapped capped) (none_fields t (parted 44 t) refl c d ∙ sym (by_fields t a b))
+-- one try after another
+pub line_said : (t : Text) (p q r s : Option CodeEntry) → mapped shown p ≡ mapped signals (after (codes "signals,") t)
+    → MatchOption p (mapped shown q ≡ mapped rule (after (codes "rule,") t)) (λ z. q ≡ Some z)
+    → MatchOption q (mapped shown r ≡ mapped capped (fields_of (codes "state") (after (codes "state,") t))) (λ z. r ≡ Some z)
+    → MatchOption r (mapped shown s ≡ mapped capped (fields_of (codes "step") (after (codes "step,") t))) (λ z. s ≡ Some z) → mapped shown s ≡ mapped capped (entry t)
+line_said t p q r s a b d e = by_words _ _ _ _ (of_fields (parted 44 t)) p q r s a b d e (λ x. by_fields t _ _ refl refl r s x e)

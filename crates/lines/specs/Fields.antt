@@ -1,8 +1,8 @@
 -- Parts of a text at a byte, and entries with their numbers cut at 65,536. Assumes nothing.
-use Rattle.std.specs.Prelude.{◌≡◌, ℕ, ◌<◌, min, cond, [], ◌∷◌, length, Some, None, Option, ◌≢◌}
+use Rattle.std.specs.Prelude.{◌≡◌, ℕ, ◌<◌, min, cond, [], ◌∷◌, length, Some, None, Option, ◌≢◌, option_and_then}
 use Rattle.std.specs.Borrow.{Bor}
 use Rattle.meaning.specs.Bytes.{Text, parted, all, digit, value}
-use Rattle.meaning.specs.Files.{Entry as LineEntry, signals, rule, state, step}
+use Rattle.meaning.specs.Files.{Entry as LineEntry, signals, rule, state, step, of_fields}
 use Rattle.lines.specs.declared.Entry.{Entry}
 use Rattle.lines.specs.declared.Entry.TheVariants.{Signals, Rule, State, Step}
 
@@ -39,3 +39,7 @@ shown (Signals x) = signals x.now
 shown (Rule x) = rule x.now
 shown (State n s a) = state n s a
 shown (Step f t) = step f t
+
+-- the entry of a line whose first field is k, from what follows its comma
+abbrev pub fields_of : Text → Option Text → Option LineEntry
+fields_of k o = option_and_then (λ rest. of_fields (k ∷ parted 44 rest)) o

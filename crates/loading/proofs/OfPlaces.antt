@@ -1,10 +1,8 @@
 -- Numbers cut at 65,536 say the same in their place.
-use Rattle.std.proofs.Common.{◌≡◌, ℕ, ◌<◌, ◌≤◌, Bool, true, false, cond, ◌&&◌, eqb, ltb, leb, length, Some, None, Option, sym, refl, ap, ◌∙◌, subst, arith, ltb-true, eqb-true, leb-true}
+use Rattle.std.proofs.Common.{◌≡◌, ℕ, ◌<◌, ◌≤◌, Bool, true, false, cond, ◌&&◌, eqb, ltb, leb, length, Some, None, Option, sym, refl, ap, ◌∙◌, arith, ltb-true, eqb-true, leb-true}
 use Rattle.std.proofs.lemmas.Bool.Decides.{nat_tests}
-use Rattle.meaning.specs.declared.refusals.LineFault.TheVariants.{Table}
-use Rattle.meaning.specs.declared.refusals.TableFault.TheVariants.{Form}
 use Rattle.meaning.specs.Bytes.{Text}
-use Rattle.meaning.specs.Files.{Rooms, Content, Entry, signals, rule, state, step, entry, mapped, in_place, placed, last_from, ended, formed, added, SaidOfLine}
+use Rattle.meaning.specs.Files.{Content, Entry, signals, rule, state, step, entry, mapped, in_place, placed, last_from, added}
 use Rattle.lines.specs.Fields.{cap, capped}
 
 cap_in_place : (c : Content) (e : Entry) → length c.states ≤ 4096 → in_place c (capped e) ≡ in_place c e
@@ -36,8 +34,8 @@ cap_in_place c (step f t) h =
 
 pub and_true : (a b : Bool) → a && b ≡ true → (a ≡ true) × (b ≡ true)
 and_true true true e = (refl, refl)
-and_true true false e = let z : ◌≡◌ {A = ℕ} 0 1 = cc in absurd (omega arith)
-and_true false b e = let z : ◌≡◌ {A = ℕ} 0 1 = cc in absurd (omega arith)
+and_true true false e = cc
+and_true false b e = cc
 
 cap_same : (c : Content) (e : Entry) → length c.states ≤ 4096 → in_place c e ≡ true → capped e ≡ e
 cap_same c (signals t) h i = refl
@@ -72,24 +70,16 @@ placed_capped c (Some e) h =
     go true i = ap Some (cap_same c e h i)
     go false i = refl
 
--- the entry with cut numbers is the line's
-pub line_is : (c : Content) (t : Text) (e : Entry) → length c.states ≤ 4096 → Some e ≡ mapped capped (entry t) → placed c (Some e) ≡ formed c (ended t)
-line_is c t e h i = ap (placed c) i ∙ placed_capped c (entry t) h
-
-none_entry : (e : Option Entry) → None ≡ mapped capped e → e ≡ None
-none_entry None h = refl
-none_entry (Some e) h = let z : ◌≡◌ {A = ℕ} 0 1 = cc in absurd (omega arith)
-
--- a line that says nothing
-pub none_said : (r : Rooms) (c : Content) (t : Text) → None ≡ mapped capped (entry t) → SaidOfLine r c (placed c (entry t)) (Some (Table Form))
-none_said r c t h = subst (λ (e : Option Entry). SaidOfLine r c (placed c e) (Some (Table Form))) (sym (none_entry (entry t) h)) refl
+-- the line has its place as what the code reads in it
+pub placed_is : (c : Content) (t : Text) (o : Option Entry) → length c.states ≤ 4096 → o ≡ mapped capped (entry t) → placed c (entry t) ≡ placed c o
+placed_is c t o h i = sym (ap (placed c) i ∙ placed_capped c (entry t) h)
 
 pub is_placed : (c : Content) (e : Entry) → placed c (Some e) ≡ Some e → in_place c e ≡ true
 is_placed c e h = go (in_place c e) h
   where
     go : (b : Bool) → cond b (Some e) None ≡ Some e → b ≡ true
     go true h = refl
-    go false h = let z : ◌≡◌ {A = ℕ} 0 1 = cc in absurd (omega arith)
+    go false h = cc
 
 -- the first line that is good opens
 pub opened_after : (c : Content) (e : Entry) → in_place c e ≡ true → (added c e).opened ≡ true

@@ -1,11 +1,13 @@
 // All lines of a file.
 ghost use Rattle.std.specs.Prelude.{◌≡◌, OnOk};
+ghost use Rattle.meaning.specs.declared.refusals.LineFault.TheVariants.{Table as Table-fault};
+ghost use Rattle.meaning.specs.declared.refusals.TableFault.TheVariants.{Form};
 ghost use Rattle.meaning.specs.Files.{RightLoading};
-ghost use Rattle.machines.specs.Held.{held_lines, rooms_of};
+ghost use Rattle.machines.specs.Held.{held_lines, rooms_of, SameAreas};
 ghost use Rattle.loading.specs.Loads.{with_line, Cleared, HasFile, Blank, Loaded};
 ghost use Rattle.loading.specs.Led.{LedByLoading};
 
-use crate::taking::take_line;
+use crate::taking::{take_first, take_line};
 use lines::cut;
 use machines::table::Table;
 use meaning::refusals::{FileFault, LineFault, TableFault};
@@ -15,9 +17,16 @@ use rules::sheet::Sheet;
 fn at_line(line: usize, taken: Result<(), LineFault>) -> Result<(), FileFault>
     ensures { result ≡ with_line line taken }
 {
-    match taken {
-        Ok(_) => Ok(()),
-        Err(fault) => Err(FileFault { line, fault }),
+    taken.map_err(|fault| FileFault { line, fault })
+}
+
+// A line without its LF.
+fn cut_off(line: usize) -> FileFault
+    ensures { result ≡ record { line = line; fault = Table-fault Form } }
+{
+    FileFault {
+        line,
+        fault: LineFault::Table(TableFault::Form),
     }
 }
 
@@ -25,32 +34,22 @@ fn at_line(line: usize, taken: Result<(), LineFault>) -> Result<(), FileFault>
 fn load_lines(sheet: &mut Sheet, table: &mut Table, file: &[u8]) -> Result<(), FileFault>
     ensures answer { Blank sheet.old (held_lines table.old) → RightLoading (rooms_of table.old) file.now result }
     ensures accepted { Blank sheet.old (held_lines table.old) → OnOk result (HasFile file.now sheet.new (held_lines table.new)) }
-    ensures rooms { rooms_of table.new ≡ rooms_of table.old }
-    ensures states { table.new.states.ghost_name ≡ table.old.states.ghost_name }
-    ensures steps { table.new.steps.ghost_name ≡ table.old.steps.ghost_name }
+    ensures areas { SameAreas table.old table.new }
 {
-    if file.len() == 0 {
-        return Err(FileFault {
-            line: 1,
-            fault: LineFault::Table(TableFault::Form),
-        });
-    }
-    let mut opened = false;
-    let mut rest = file;
-    let mut line = 0;
-    while rest.len() > 0 {
+    let (first, mut rest) = cut(file, b'\n').ok_or(cut_off(1))?;
+    at_line(1, take_first(sheet, first))?;
+    // Kept: the lines are counted by hand: `cut` hands out a line with the rest, and an iterator over lines would be one type more.
+    let mut line = 1;
+    while let Some((text, more)) = cut(rest, b'\n') {
         line += 1;
-        let Some((text, more)) = cut(rest, b'\n') else {
-            return Err(FileFault {
-                line,
-                fault: LineFault::Table(TableFault::Form),
-            });
-        };
-        at_line(line, take_line(sheet, table, opened, text))?;
-        opened = true;
+        at_line(line, take_line(sheet, table, text))?;
         rest = more;
     }
-    Ok(())
+    if rest.is_empty() {
+        Ok(())
+    } else {
+        Err(cut_off(line + 1))
+    }
 }
 
 // Loads a file; what the sheet and the table held before is dropped. A refusal leaves both blank.
@@ -59,19 +58,14 @@ pub fn load(sheet: &mut Sheet, table: &mut Table, file: &[u8]) -> Result<(), Fil
     ensures cleared { Cleared result sheet.new (held_lines table.new) }
     ensures loads { Loaded file.now result sheet.new (held_lines table.new) }
     ensures led { LedByLoading (rooms_of table.old) file.now result sheet.new table.new }
-    ensures rooms { rooms_of table.new ≡ rooms_of table.old }
-    ensures states { table.new.states.ghost_name ≡ table.old.states.ghost_name }
-    ensures steps { table.new.steps.ghost_name ≡ table.old.steps.ghost_name }
+    ensures areas { SameAreas table.old table.new }
 {
     sheet.clear();
     table.clear();
     let loaded = load_lines(sheet, table, file);
-    match loaded {
-        Ok(_) => Ok(()),
-        Err(fault) => {
-            sheet.clear();
-            table.clear();
-            Err(fault)
-        }
+    if loaded.is_err() {
+        sheet.clear();
+        table.clear();
     }
+    loaded
 }

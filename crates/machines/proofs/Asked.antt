@@ -1,11 +1,11 @@
 -- What code over any lawful machine knows of an answer: none never comes inside the ranges.
-use Rattle.std.proofs.Common.{◌≡◌, ℕ, ◌<◌, ◌≤◌, true, ltb, length, get_or, Some, None, Option, sym, refl, arith, lt-ltb}
+use Rattle.std.proofs.Common.{◌≡◌, ℕ, ◌<◌, true, ltb, length, get_or, Some, None, Option, sym, refl, arith, lt-ltb}
 use Rattle.std.proofs.lemmas.Option.{slice_get-get_or}
-use Rattle.meaning.specs.Machines.{Meaning, Lawful, asks_start, asks_letter, asks_steps, asks_step}
+use Rattle.meaning.specs.Machines.{Meaning, Lawful, asks_start, asks_steps, asks_step}
 use Rattle.machines.proofs.Nths.{nth_all}
 
 clash : {X : Type 0} (x : X) (o : Option X) → o ≡ Some x → None ≡ o → ⊥
-clash x o e f = let z : ◌≡◌ {A = ℕ} 0 1 = cc in omega arith
+clash x o e f = cc
 
 same : {X : Type 0} (x y : X) (o : Option X) → o ≡ Some x → Some y ≡ o → y ≡ x
 same x y o e f = cc
@@ -21,19 +21,6 @@ module _ (m : Meaning) where
   pub start_below : Lawful m → (k s : ℕ) → Some s ≡ asks_start m k → s < m.count
   start_below l k s e = nth_all (λ s. s < m.count) m.starts k s l.starts_below (sym e)
 
-  -- the letter of a state
-  letter_is : (s : ℕ) → s < m.count → asks_letter m s ≡ Some (m.letter s)
-  letter_is s h = let b : ltb s m.count ≡ true = lt-ltb s m.count h in rw b refl
-
-  pub letter_none : (s : ℕ) → s < m.count → None ≡ asks_letter m s → ⊥
-  letter_none s h e = clash (m.letter s) (asks_letter m s) (letter_is s h) e
-
-  pub letter_value : (s a : ℕ) → s < m.count → Some a ≡ asks_letter m s → a ≡ m.letter s
-  letter_value s a h e = same (m.letter s) a (asks_letter m s) (letter_is s h) e
-
-  pub letter_small : Lawful m → (s a : ℕ) → s < m.count → Some a ≡ asks_letter m s → a < 256
-  letter_small l s a h e = omega (arith, letter_value s a h e, l.letters_small s h)
-
   -- how many steps a state has
   step_count_is : (s : ℕ) → s < m.count → asks_steps m s ≡ Some (length (m.steps s))
   step_count_is s h = let b : ltb s m.count ≡ true = lt-ltb s m.count h in rw b refl
@@ -43,9 +30,6 @@ module _ (m : Meaning) where
 
   pub step_count_value : (s n : ℕ) → s < m.count → Some n ≡ asks_steps m s → n ≡ length (m.steps s)
   step_count_value s n h e = same (length (m.steps s)) n (asks_steps m s) (step_count_is s h) e
-
-  pub step_count_few : Lawful m → (s n : ℕ) → s < m.count → Some n ≡ asks_steps m s → n ≤ m.width
-  step_count_few l s n h e = omega (arith, step_count_value s n h e, l.steps_few s h)
 
   -- the k-th step of a state
   step_is : (s k : ℕ) → s < m.count → k < length (m.steps s) → asks_step m s k ≡ Some (get_or (m.steps s) k 0)

@@ -1,4 +1,3 @@
-pub mod OfBytes
 pub mod Nths
 pub mod Asked
 pub mod StuckSteps

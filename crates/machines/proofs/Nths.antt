@@ -30,6 +30,6 @@ some_same : {X : Type 0} (x y : X) → ◌≡◌ {A = Option X} (Some x) (Some y
 some_same x y e = cc
 
 pub nth_all : (P : ℕ → Type 0) (xs : List ℕ) (k x : ℕ) → AllByRecursion P xs → slice_get xs k ≡ Some x → P x
-nth_all P [] k x h e = absurd (let z : ◌≡◌ {A = ℕ} 0 1 = cc in omega arith)
+nth_all P [] k x h e = cc
 nth_all P (y ∷ ys) zero x h e = rw (← some_same y x e) h.0
 nth_all P (y ∷ ys) (suc k) x h e = nth_all P ys k x h.1 e

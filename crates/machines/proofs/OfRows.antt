@@ -8,18 +8,8 @@ use Rattle.meaning.specs.Files.{last_from}
 use Rattle.meaning.specs.Kinds.{State as StateLine, Step as StepLine, starts_from, steps_from}
 use Rattle.machines.specs.declared.records.State.{State}
 use Rattle.machines.specs.declared.records.Step.{Step}
-use Rattle.machines.specs.Rows.{blank_state, blank_step, row, state_line, step_line, state_lines, step_lines, start_at, end_of, stepped, Starts, Letters, Ends, Sources, Within, Together, Newest}
+use Rattle.machines.specs.Rows.{blank_state, blank_step, row, state_line, step_line, state_lines, step_lines, start_at, end_of, stepped, Starts, Rows}
 use Rattle.machines.specs.TableLaws.{length_front}
-
--- all that the records keep: n states, m steps, k starts
-pub record Rows (ss : List State) (es : List Step) (n m k : ℕ) : Type 0 where
-  pub starts : Starts ss n k
-  pub letters : Letters ss n
-  pub ends : Ends es n m
-  pub sources : Sources es n m
-  pub within : Within ss n m
-  pub together : Together ss es n m
-  pub newest : Newest ss es n m
 
 -- a record that keeps another number of a start, and that of a new state
 abbrev pub renumbered : State → ℕ → State
@@ -46,16 +36,14 @@ same_front f (y ∷ ys) (suc i) (suc n) x d e = ap (λ zs. f y ∷ zs) (same_fro
 -- one line more
 starts_more : (k : ℕ) (xs : List StateLine) (s : StateLine) → starts_from k (xs ++ (s ∷ [])) ≡ starts_from k xs ++ cond s.start ((k + length xs) ∷ []) []
 starts_more k [] s = rw add-zero refl
-starts_more k (x ∷ xs) s = go x.start (starts_more (k + 1) xs s)
+starts_more k (x ∷ xs) s =
+    let e : (k + 1) + length xs ≡ k + suc (length xs) = omega arith in
+    by x.start (rw e at (starts_more (k + 1) xs s))
   where
     by : (b : Bool) → starts_from (k + 1) (xs ++ (s ∷ [])) ≡ starts_from (k + 1) xs ++ cond s.start ((k + suc (length xs)) ∷ []) []
         → cond b (k ∷ starts_from (k + 1) (xs ++ (s ∷ []))) (starts_from (k + 1) (xs ++ (s ∷ []))) ≡ cond b (k ∷ starts_from (k + 1) xs) (starts_from (k + 1) xs) ++ cond s.start ((k + suc (length xs)) ∷ []) []
     by true ih = ap (λ (zs : List ℕ). k ∷ zs) ih
     by false ih = ih
-
-    go : (b : Bool) → starts_from (k + 1) (xs ++ (s ∷ [])) ≡ starts_from (k + 1) xs ++ cond s.start (((k + 1) + length xs) ∷ []) []
-        → cond b (k ∷ starts_from (k + 1) (xs ++ (s ∷ []))) (starts_from (k + 1) (xs ++ (s ∷ []))) ≡ cond b (k ∷ starts_from (k + 1) xs) (starts_from (k + 1) xs) ++ cond s.start ((k + suc (length xs)) ∷ []) []
-    go b ih = let e : (k + 1) + length xs ≡ k + suc (length xs) = omega arith in by b (rw e at ih)
 
 steps_more : (es : List StepLine) (e : StepLine) (s : ℕ) → steps_from (es ++ (e ∷ [])) s ≡ steps_from es s ++ steps_from (e ∷ []) s
 steps_more es e s =
@@ -63,16 +51,10 @@ steps_more es e s =
     ∙ map-append (λ (e : StepLine). e.to) (filter (λ (e : StepLine). eqb e.from s) es) (filter (λ (e : StepLine). eqb e.from s) (e ∷ []))
 
 steps_same : (es : List StepLine) (f t : ℕ) → steps_from (es ++ (record { from = f; to = t } ∷ [])) f ≡ steps_from es f ++ (t ∷ [])
-steps_same es f t =
-    let q : eqb f f ≡ true = eq-eqb f f refl in
-    let one : steps_from (record { from = f; to = t } ∷ []) f ≡ t ∷ [] = rw q refl in
-    steps_more es (record { from = f; to = t }) f ∙ ap (λ (zs : List ℕ). steps_from es f ++ zs) one
+steps_same es f t = let q : eqb f f ≡ true = eq-eqb f f refl in steps_more es (record { from = f; to = t }) f ∙ simp q
 
 steps_other : (es : List StepLine) (f t s : ℕ) → (f ≡ s → ⊥) → steps_from (es ++ (record { from = f; to = t } ∷ [])) s ≡ steps_from es s
-steps_other es f t s ne =
-    let q : eqb f s ≡ false = ne_eqb f s ne in
-    let one : steps_from (record { from = f; to = t } ∷ []) s ≡ [] = rw q refl in
-    steps_more es (record { from = f; to = t }) s ∙ (ap (λ (zs : List ℕ). steps_from es s ++ zs) one ∙ append-nil (steps_from es s))
+steps_other es f t s ne = let q : eqb f s ≡ false = ne_eqb f s ne in steps_more es (record { from = f; to = t }) s ∙ simp (q, append-nil (steps_from es s))
 
 last_more : (es : List StepLine) (e : StepLine) → last_from (es ++ (e ∷ [])) ≡ e.from
 last_more [] e = refl

@@ -1,5 +1,5 @@
 -- The lines that a table holds, its rooms, and what it answers to one line more. Assumes nothing.
-use Rattle.std.specs.Prelude.{ℕ, Bool, cond, ◌&&◌, List, [], ◌∷◌, ◌++◌, length, Ok, Err, Result, ◌==◌, nat_le, nat_lt}
+use Rattle.std.specs.Prelude.{◌≡◌, ℕ, Bool, cond, ◌&&◌, List, [], ◌∷◌, ◌++◌, length, Ok, Err, Result, ◌==◌, nat_le, nat_lt}
 use Rattle.meaning.specs.declared.refusals.TableFault.{TableFault}
 use Rattle.meaning.specs.declared.refusals.TableFault.TheVariants.{Form, NoRoom}
 use Rattle.meaning.specs.Kinds.{Lines}
@@ -17,6 +17,10 @@ rooms_in ss es = record { states = length ss; steps = length es }
 
 abbrev pub rooms_of : Table → Rooms
 rooms_of t = rooms_in t.states.now t.steps.now
+
+-- a table keeps its lent areas
+abbrev pub SameAreas : Table → Table → Type 0
+SameAreas old new = (rooms_of new ≡ rooms_of old) × (new.states.ghost_name ≡ old.states.ghost_name) × (new.steps.ghost_name ≡ old.steps.ghost_name)
 
 -- one line more
 abbrev pub with_state : Lines → Bool → ℕ → Lines

@@ -71,3 +71,13 @@ Together ss es n m = (s : ℕ) → s < n → steps_from (step_lines es m) s ≡ 
 abbrev pub Newest : List State → List Step → ℕ → ℕ → Type 0
 Newest ss es n m = (s : ℕ) → (s < n) × (last_from (step_lines es m) ≤ s) × (0 < (row ss s).step_count)
     → (s ≡ last_from (step_lines es m)) × ((row ss s).first_step + (row ss s).step_count ≡ m)
+
+-- all that the records keep besides the lines: n states, m steps, k starts
+pub record Rows (ss : List State) (es : List Step) (n m k : ℕ) : Type 0 where
+  pub starts : Starts ss n k
+  pub letters : Letters ss n
+  pub ends : Ends es n m
+  pub sources : Sources es n m
+  pub within : Within ss n m
+  pub together : Together ss es n m
+  pub newest : Newest ss es n m

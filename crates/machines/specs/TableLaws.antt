@@ -23,7 +23,7 @@ tables_keep_laws t =
     let n = length_front state_line t.states.now t.state_count t.states_within in
     let m = length_front step_line t.steps.now t.step_count t.steps_within in
     table_lawful (held_lines t) (record {
-      bytes = all_front (λ (x : StateLine). x.letter ≤ 255) state_line blank_state t.states.now t.state_count t.states_within (λ s h. omega (arith, t.letters s h));
-      ends = all_front (λ (e : StepLine). e.to < length (held_lines t).states) step_line blank_step t.steps.now t.step_count t.steps_within (λ i h. omega (arith, n, t.ends i h));
+      bytes = all_front (λ (x : StateLine). x.letter ≤ 255) state_line blank_state t.states.now t.state_count t.states_within (λ s h. omega (arith, t.rows.letters s h));
+      ends = all_front (λ (e : StepLine). e.to < length (held_lines t).states) step_line blank_step t.steps.now t.step_count t.steps_within (λ i h. omega (arith, n, t.rows.ends i h));
       few = omega (arith, m, t.steps_few);
     })

@@ -2,7 +2,8 @@
 
 // A state: whether it is a start, its letter, and where its steps stand: `step_count` records from `first_step` on.
 // Apart from that, record k keeps in `nth_start` the number of the k-th start.
-#[derive(Clone, Copy)]
+// Kept: the starts have no lent area of their own, and the k-th one is found in constant time.
+#[derive(Clone, Copy, Debug, PartialEq, Eq)]
 pub struct State {
     pub(crate) start: bool,
     pub(crate) letter: u8,
@@ -23,7 +24,7 @@ impl State {
 }
 
 // A step between two states.
-#[derive(Clone, Copy)]
+#[derive(Clone, Copy, Debug, PartialEq, Eq)]
 pub struct Step {
     pub(crate) from: u16,
     pub(crate) to: u16,

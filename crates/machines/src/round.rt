@@ -16,11 +16,6 @@ impl<'a> Round<'a> {
     pub fn new(letters: &'a [u8]) -> Self
         ensures { result.letters.now ≡ letters.now }
     {
-        // that all letters are bytes is known once one is read
-        if letters.len() > 0 {
-            let _first = letters[0];
-            return Round { letters };
-        }
         Round { letters }
     }
 }
@@ -39,44 +34,24 @@ impl Machine for Round<'_> {
     }
 
     fn start_count(&self) -> usize {
-        if self.letters.len() > 0 { 1 } else { 0 }
+        usize::from(!self.letters.is_empty())
     }
 
     fn start(&self, k: usize) -> Option<usize> {
-        if self.letters.len() > 0 && k == 0 {
-            Some(0)
-        } else {
-            None
-        }
+        (k < self.start_count()).then_some(0)
     }
 
     fn letter(&self, s: usize) -> Option<u8> {
-        if s < self.letters.len() {
-            Some(self.letters[s])
-        } else {
-            None
-        }
+        self.letters.get(s).copied()
     }
 
     fn step_count(&self, s: usize) -> Option<usize> {
-        if s >= self.letters.len() {
-            return None;
-        }
-        if s + 1 < self.letters.len() {
-            Some(1)
-        } else {
-            Some(0)
-        }
+        self.letters.get(s)?;
+        Some(usize::from(s + 1 < self.letters.len()))
     }
 
     fn step(&self, s: usize, k: usize) -> Option<usize> {
-        if s >= self.letters.len() {
-            return None;
-        }
-        if s + 1 < self.letters.len() && k == 0 {
-            Some(s + 1)
-        } else {
-            None
-        }
+        let next = s.checked_add(1)?;
+        (next < self.letters.len() && k == 0).then_some(next)
     }
 }

@@ -1,5 +1,5 @@
 // The stuck layer: over a machine of n states, states n to 2n - 1 are the same states with one signal stuck on.
-ghost use Rattle.std.specs.Prelude.{◌≡◌};
+ghost use Rattle.std.specs.Prelude.{◌≡◌, Some, None, cond, option_map};
 ghost use Rattle.meaning.specs.Kinds.{fitting, stuck_fits, stuck_meaning};
 ghost use Rattle.meaning.proofs.OfLaws.{stuck_layers_are_lawful};
 
@@ -20,21 +20,19 @@ impl<M: Machine> StuckLayer<M> {
         StuckLayer { below, signal }
     }
 
-    fn fits(&self) -> bool
-        ensures { result ≡ stuck_fits (M.Machine.meaning self.now.below) self.now.signal }
+    // The machine below, where the layer fits over it.
+    fn fitted(&self) -> Option<&M>
+        ensures { option_map (λ m. m.now) result ≡ cond (stuck_fits (M.Machine.meaning self.now.below) self.now.signal) (Some self.now.below) None }
     {
-        self.below.count() <= 32768 && self.below.width() <= 524288 && self.signal <= 7
+        let fits = self.below.count() <= 32768 && self.below.width() <= 524288 && self.signal <= 7;
+        fits.then_some(&self.below)
     }
 
     // Whether the layer fits over the machine below; where it does not, it has no states.
     pub fn fitting(&self) -> Result<(), FittingFault>
         ensures { result ≡ fitting (M.Machine.meaning self.now.below) self.now.signal }
     {
-        if self.fits() {
-            Ok(())
-        } else {
-            Err(FittingFault::TooLarge)
-        }
+        self.fitted().map(|_| ()).ok_or(FittingFault::TooLarge)
     }
 }
 
@@ -44,71 +42,46 @@ impl<M: Machine> Machine for StuckLayer<M> {
     ghost lawful = { λ s. stuck_layers_are_lawful (M.Machine.meaning s.below) s.signal (M.Machine.lawful s.below) };
 
     fn count(&self) -> usize {
-        if self.fits() {
-            2 * self.below.count()
-        } else {
-            0
-        }
+        2 * self.fitted().map_or(0, |below| below.count())
     }
 
     fn width(&self) -> usize {
-        if self.fits() {
-            2 * self.below.width()
-        } else {
-            0
-        }
+        2 * self.fitted().map_or(0, |below| below.width())
     }
 
     fn start_count(&self) -> usize {
-        if self.fits() {
-            self.below.start_count()
-        } else {
-            0
-        }
+        self.fitted().map_or(0, |below| below.start_count())
     }
 
     fn start(&self, k: usize) -> Option<usize> {
-        if self.fits() {
-            self.below.start(k)
-        } else {
-            None
-        }
+        self.fitted()?.start(k)
     }
 
     fn letter(&self, s: usize) -> Option<u8> {
-        if !self.fits() {
-            return None;
-        }
-        let n = self.below.count();
+        let below = self.fitted()?;
+        let n = below.count();
         if s < n {
-            return self.below.letter(s);
+            return below.letter(s);
         }
-        let a = self.below.letter(s - n)?;
-        Some(a | (1 << self.signal))
+        Some(below.letter(s - n)? | (1 << self.signal))
     }
 
     fn step_count(&self, s: usize) -> Option<usize> {
-        if !self.fits() {
-            return None;
-        }
-        let n = self.below.count();
+        let below = self.fitted()?;
+        let n = below.count();
         if s >= n {
-            return self.below.step_count(s - n);
+            return below.step_count(s - n);
         }
-        let c = self.below.step_count(s)?;
-        Some(2 * c)
+        Some(2 * below.step_count(s)?)
     }
 
     fn step(&self, s: usize, k: usize) -> Option<usize> {
-        if !self.fits() {
-            return None;
-        }
-        let n = self.below.count();
+        let below = self.fitted()?;
+        let n = below.count();
         if s >= n {
-            let t = self.below.step(s - n, k)?;
-            return Some(n + t);
+            return Some(n + below.step(s - n, k)?);
         }
-        let t = self.below.step(s, k / 2)?;
+        let t = below.step(s, k / 2)?;
         Some(if k % 2 == 0 { t } else { n + t })
     }
 }

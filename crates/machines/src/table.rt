@@ -1,12 +1,13 @@
 // The table: states and steps as listed line by line, in two lent areas, with every question answered in constant time.
 ghost use Rattle.std.specs.Prelude.{◌≤◌, length};
-ghost use Rattle.machines.specs.Rows.{Starts, Letters, Ends, Sources, Within, Together, Newest};
+ghost use Rattle.machines.specs.Rows.{Rows};
 
 pub mod lines;
 pub mod questions;
 
 use crate::records::{State, Step};
 
+// Kept: memory is lent, and its owner sets how much, so the counts of what is used stand beside the areas.
 // The first `state_count` records of one area and the first `step_count` of the other are the lines that it holds.
 #[derive(Drop)]
 pub struct Table<'a> {
@@ -20,11 +21,5 @@ pub struct Table<'a> {
     ghost steps_within: { step_count ≤ length steps.now },
     ghost steps_few: { step_count ≤ 16384 },
     ghost starts_within: { start_count ≤ state_count },
-    ghost starts: { Starts states.now state_count start_count },
-    ghost letters: { Letters states.now state_count },
-    ghost ends: { Ends steps.now state_count step_count },
-    ghost sources: { Sources steps.now state_count step_count },
-    ghost slots_within: { Within states.now state_count step_count },
-    ghost slots: { Together states.now steps.now state_count step_count },
-    ghost newest: { Newest states.now steps.now state_count step_count },
+    ghost rows: { Rows states.now steps.now state_count step_count start_count },
 }

@@ -1,23 +1,9 @@
-use Rattle.std.proofs.Common.{arith}
-use Rattle.lines.proofs.OfFields.{bad_step, good_step, end_step}
+use Rattle.std.proofs.Common.{◌≡◌, ◌∙◌, ◌+◌, ◌-◌, ◌*◌, min, get_or, arith}
+use Rattle.std.proofs.lemmas.Bool.Decides.{nat_tests}
+use Rattle.lines.proofs.OfFields.{next_digit}
 use Rattle.lines.proofs.digits.Goals as goal
-use Rattle.lines.proofs.digits.Goals.{then-b-lt48-via-then-b-lt48, then-b-lt48-via-else-b-lt48+then-b-gt57, then-n-gt65536, else-n-gt65536}
-
-pub returns-then-b-lt48 : goal.returns-then-b-lt48
-returns-then-b-lt48 c =
-    let t = c.args.text.now in
-    elim c.then-b-lt48.branch [
-      | then-b-lt48-via-then-b-lt48 w ↦ bad_step c.loop-b.n t c.loop-b.b-index _ c.loop-b-test.true c.loop-b.invariant.1 (λ p q. omega (arith, w.if-b-lt48.true))
-      | then-b-lt48-via-else-b-lt48+then-b-gt57 w ↦ bad_step c.loop-b.n t c.loop-b.b-index _ c.loop-b-test.true c.loop-b.invariant.1 (λ p q. omega (arith, w.if-b-gt57.true))
-    ]
 
 pub loop-b-preserved : goal.loop-b-preserved
 loop-b-preserved c =
-    let t = c.args.text.now in
-    elim c.if-n-gt65536.branch [
-      | then-n-gt65536 w ↦ (omega (arith, w.n-is), good_step c.loop-b.n _ t c.loop-b.b-index _ c.loop-b-test.true c.loop-b.invariant.1 c.if-b-lt48.false c.if-b-gt57.false (omega (arith, w.n-is, w.if-n-gt65536.true)))
-      | else-n-gt65536 w ↦ (omega (arith, w.n-is, w.if-n-gt65536.false), good_step c.loop-b.n _ t c.loop-b.b-index _ c.loop-b-test.true c.loop-b.invariant.1 c.if-b-lt48.false c.if-b-gt57.false (omega (arith, w.n-is, w.if-n-gt65536.false)))
-    ]
-
-pub returns : goal.returns
-returns c = end_step c.loop-b.n c.args.text.now c.loop-b.b-index _ c.loop-b-test.false c.loop-b.invariant.0 c.loop-b.invariant.1
+    let m : c.min-n.result ≡ min 65536 (c.loop-b.n * 10 + (get_or c.args.text.now c.loop-b.b-index 0 - 48)) = grind (arith, nat_tests) in
+    (omega arith, next_digit c.loop-b.n _ c.args.text.now c.loop-b.b-index c.loop-b-test.true (omega (arith, c.if-not-is_ascii_digit.ensures.cases)) (omega (arith, c.if-not-is_ascii_digit.ensures.cases)) m ∙ c.loop-b.invariant.1)

@@ -1,8 +1,6 @@
-use Rattle.lines.proofs.OfFields.{parted_some}
+use Rattle.std.proofs.Common.{rules}
+use Rattle.lines.proofs.OfFields.{two_is}
 use Rattle.lines.proofs.two.Goals as goal
 
-pub returns-in-Some-cut : goal.returns-in-Some-cut
-returns-in-Some-cut c = λ a b e.
-    let p = c.in-Some.ensures.0 in
-    let q = c.in-Some-cut.ensures.0 in
-    parted_some 44 c.in-Some-cut.field-0.1.now (cc)
+pub returns : goal.returns
+returns c = two_is c.args.text.now (c.in_ok-a.a, c.in_ok-a.b) c.cut-2.result c.then_some.result c.in_ok-a.ensures c.cut-2.ensures (search rules)

@@ -3,7 +3,7 @@ ghost use Rattle.std.specs.Prelude.{◌≡◌, ◌<◌};
 ghost use Rattle.meaning.specs.Files.{last_from};
 ghost use Rattle.meaning.specs.Kinds.{no_lines};
 ghost use Rattle.machines.specs.Rows.{stepped};
-ghost use Rattle.machines.specs.Held.{held_lines, rooms_in, rooms_of, with_state, with_step, state_answer, step_answer, if_taken, IfRefused};
+ghost use Rattle.machines.specs.Held.{held_lines, rooms_in, rooms_of, SameAreas, with_state, with_step, state_answer, step_answer, if_taken, IfRefused};
 
 use crate::records::{State, Step};
 use crate::table::Table;
@@ -14,17 +14,14 @@ fn with_step(state: State, at: u16) -> State
     requires { state.step_count < 16384 }
     ensures { result ≡ stepped state at }
 {
-    let first_step = if state.step_count == 0 {
-        at
-    } else {
-        state.first_step
-    };
     State {
-        start: state.start,
-        letter: state.letter,
-        first_step,
+        first_step: if state.step_count == 0 {
+            at
+        } else {
+            state.first_step
+        },
         step_count: state.step_count + 1,
-        nth_start: state.nth_start,
+        ..state
     }
 }
 
@@ -46,9 +43,7 @@ impl<'a> Table<'a> {
 
     pub fn clear(&mut self)
         ensures lines { held_lines self.new ≡ no_lines }
-        ensures rooms { rooms_of self.new ≡ rooms_of self.old }
-        ensures states { self.new.states.ghost_name ≡ self.old.states.ghost_name }
-        ensures steps { self.new.steps.ghost_name ≡ self.old.steps.ghost_name }
+        ensures areas { SameAreas self.old self.new }
     {
         self.state_count = 0;
         self.step_count = 0;
@@ -59,10 +54,9 @@ impl<'a> Table<'a> {
     fn last_from(&self) -> usize
         ensures { result ≡ last_from (held_lines self.now).steps }
     {
-        if self.step_count == 0 {
-            return 0;
-        }
-        self.steps[self.step_count - 1].from as usize
+        self.steps[..self.step_count]
+            .last()
+            .map_or(0, |step| usize::from(step.from))
     }
 
     // Takes the line of state `number`: that is the number of states so far.
@@ -70,9 +64,7 @@ impl<'a> Table<'a> {
         ensures answer { result ≡ state_answer (rooms_of self.old) (held_lines self.old) number }
         ensures lines { held_lines self.new ≡ if_taken result (with_state (held_lines self.old) start letter) (held_lines self.old) }
         ensures refused { IfRefused result (self.new ≡ self.old) }
-        ensures rooms { rooms_of self.new ≡ rooms_of self.old }
-        ensures states { self.new.states.ghost_name ≡ self.old.states.ghost_name }
-        ensures steps { self.new.steps.ghost_name ≡ self.old.steps.ghost_name }
+        ensures areas { SameAreas self.old self.new }
     {
         let at = self.state_count;
         if number != at {
@@ -92,7 +84,7 @@ impl<'a> Table<'a> {
             nth_start: at as u16,
         };
         self.state_count = at + 1;
-        self.start_count = nth + start as usize;
+        self.start_count = nth + usize::from(start);
         Ok(())
     }
 
@@ -101,9 +93,7 @@ impl<'a> Table<'a> {
         ensures answer { result ≡ step_answer (rooms_of self.old) (held_lines self.old) from to }
         ensures lines { held_lines self.new ≡ if_taken result (with_step (held_lines self.old) from to) (held_lines self.old) }
         ensures refused { IfRefused result (self.new ≡ self.old) }
-        ensures rooms { rooms_of self.new ≡ rooms_of self.old }
-        ensures states { self.new.states.ghost_name ≡ self.old.states.ghost_name }
-        ensures steps { self.new.steps.ghost_name ≡ self.old.steps.ghost_name }
+        ensures areas { SameAreas self.old self.new }
     {
         let at = self.step_count;
         if from < self.last_from() || from >= self.state_count || to >= self.state_count {

@@ -1,10 +1,12 @@
 // What a table answers: how many lines it holds, and the questions of a machine.
-ghost use Rattle.std.specs.Prelude.{◌≡◌, ◌≤◌, length};
+ghost use Rattle.std.specs.Prelude.{◌≡◌, ◌≤◌, length, Some, None, cond, nat_lt, option_map};
 ghost use Rattle.meaning.specs.Kinds.{table_meaning};
 ghost use Rattle.machines.specs.Held.{held_lines};
+ghost use Rattle.machines.specs.Rows.{row};
 ghost use Rattle.machines.specs.TableLaws.{tables_keep_laws};
 
 use crate::machine::Machine;
+use crate::records::State;
 use crate::table::Table;
 
 impl Table<'_> {
@@ -22,6 +24,13 @@ impl Table<'_> {
         ensures few { result ≤ 16384 }
     {
         self.step_count
+    }
+
+    // The record of state s.
+    fn state(&self, s: usize) -> Option<&State>
+        ensures { option_map (λ x. x.now) result ≡ cond (nat_lt s self.now.state_count) (Some (row self.now.states.now s)) None }
+    {
+        self.states[..self.state_count].get(s)
     }
 }
 
@@ -43,38 +52,22 @@ impl Machine for Table<'_> {
     }
 
     fn start(&self, k: usize) -> Option<usize> {
-        if k < self.start_count {
-            Some(self.states[k].nth_start as usize)
-        } else {
-            None
-        }
+        let state = self.states[..self.start_count].get(k)?;
+        Some(usize::from(state.nth_start))
     }
 
     fn letter(&self, s: usize) -> Option<u8> {
-        if s < self.state_count {
-            Some(self.states[s].letter)
-        } else {
-            None
-        }
+        Some(self.state(s)?.letter)
     }
 
     fn step_count(&self, s: usize) -> Option<usize> {
-        if s < self.state_count {
-            Some(self.states[s].step_count as usize)
-        } else {
-            None
-        }
+        Some(usize::from(self.state(s)?.step_count))
     }
 
     fn step(&self, s: usize, k: usize) -> Option<usize> {
-        if s >= self.state_count {
-            return None;
-        }
-        let state = self.states[s];
-        if k < state.step_count as usize {
-            Some(self.steps[state.first_step as usize + k].to as usize)
-        } else {
-            None
-        }
+        let state = self.state(s)?;
+        let first = usize::from(state.first_step);
+        let steps = &self.steps[first..first + usize::from(state.step_count)];
+        Some(usize::from(steps.get(k)?.to))
     }
 }

@@ -1,56 +1,57 @@
-use Rattle.std.proofs.Common.{refl, ◌∙◌, arith}
+use Rattle.std.proofs.Common.{◌≡◌, ◌∷◌, ◌<◌, ◌≤◌, length, refl, ◌∙◌, arith, rules}
+use Rattle.std.proofs.lemmas.Bool.Decides.{nat_tests}
 use Rattle.std.proofs.lemmas.Result.{err_from_is_err_and}
+use Rattle.meaning.specs.Bytes.{parted}
+use Rattle.meaning.specs.Files.{nothing}
 use Rattle.machines.specs.Held.{held_lines, rooms_of}
-use Rattle.loading.specs.Loads.{Blank}
-use Rattle.loading.proofs.OfLoop.{goes_start, goes_cut, goes_bad, goes_on, goes_end, refused, made_none, in_rooms}
+use Rattle.loading.proofs.OfLoop.{left_start, bad_line, good_line, no_more}
 use Rattle.loading.proofs.load.load_lines.Goals as goal
 
-pub loop-rest-init : goal.loop-rest-init
-loop-rest-init c =
-    (goes_start (rooms_of c.args.table.now) c.args.file.now c.args.sheet.now (held_lines c.args.table.now) (omega arith), refl, refl, refl, omega arith)
-
-pub returns-in_default : goal.returns-in_default
-returns-in_default c =
-    let v = c.loop-rest in
-    record {
-      answer = λ b. goes_cut (rooms_of c.args.table.now) c.args.file.now v.sheet (held_lines v.table) v.opened v.line v.rest.now (v.invariant.0 b) c.in_default.ensures c.loop-rest-test.true;
-      accepted = λ b. tt;
-      rooms = v.invariant.1;
-      states = v.invariant.2;
-      steps = v.invariant.3;
-    }
-
-pub returns-in_err-at_line : goal.returns-in_err-at_line
-returns-in_err-at_line c =
-    let v = c.loop-rest in
+pub returns-in_err-at_line-clause-answer : goal.returns-in_err-at_line-clause-answer
+returns-in_err-at_line-clause-answer c = λ b.
     let r = rooms_of c.args.table.now in
+    let file = c.args.file.now in
+    let cut : (parted 10 file ≡ c.in_ok-first.first.now ∷ parted 10 c.in_ok-first.rest.now) × (length c.in_ok-first.rest.now < length file) = search rules in
+    let p = err_from_is_err_and c.from_residual-in_err-at_line.result c.from_residual-in_err-at_line.ensures.1 in
+    let start = left_start r file (omega arith) in
+    rw (p.1, p.2) (bad_line r file nothing 0 file c.in_ok-first.first.now c.in_ok-first.rest.now c.take_first.result c.take_first.new.sheet (held_lines c.args.table.now) c.in_err-at_line.field-0.0 start cut.0 (c.take_first.ensures r (held_lines c.args.table.now) b.1) c.in_err-at_line.ensures)
+
+pub loop-text-init : goal.loop-text-init
+loop-text-init c =
+    let r = rooms_of c.args.table.now in
+    let file = c.args.file.now in
+    let cut : (parted 10 file ≡ c.in_ok-first.first.now ∷ parted 10 c.in_ok-first.rest.now) × (length c.in_ok-first.rest.now < length file) = search rules in
+    let start = left_start r file (omega arith) in (
+      λ b. good_line r file nothing 0 file c.in_ok-first.first.now c.in_ok-first.rest.now c.take_first.result c.take_first.new.sheet (held_lines c.args.table.now) c.in_ok-at_line.field-0 start cut.0
+          (c.take_first.ensures r (held_lines c.args.table.now) b.1) c.in_ok-at_line.ensures,
+      (refl, refl, refl),
+      omega arith,
+    )
+
+pub returns-in_err-at_line-2-clause-answer : goal.returns-in_err-at_line-2-clause-answer
+returns-in_err-at_line-2-clause-answer c = λ b.
+    let v = c.loop-text in
     let t = c.take_line in
-    let p = err_from_is_err_and c.from_residual.result c.from_residual.ensures.1 in
-    let bad = λ (b : Blank c.args.sheet.now (held_lines c.args.table.now)). goes_bad r c.args.file.now v.sheet t.new.sheet (held_lines v.table) (held_lines t.new.table) v.opened v.line v.rest.now c.in-Some.text.now c.in-Some.more.now t.result
-    c.in_err-at_line.field-0.0 (v.invariant.0 b) c.in-Some.ensures.0 (in_rooms (rooms_of v.table) r v.sheet t.new.sheet (held_lines v.table) (held_lines t.new.table) v.opened c.in-Some.text.now t.result t.ensures.takes v.invariant.1) c.in_err-at_line.ensures in
-    record {
-      answer = λ b. refused r c.args.file.now c.from_residual.result c.in_err-at_line.field-0.0 p.0 p.1 p.2 (bad b);
-      accepted = λ b. made_none _ c.from_residual.result p.0 p.1;
-      rooms = t.ensures.rooms ∙ v.invariant.1;
-      states = t.ensures.states ∙ v.invariant.2;
-      steps = t.ensures.steps ∙ v.invariant.3;
-    }
+    let g = v.invariant.0 b in
+    let p = err_from_is_err_and c.from_residual-in_err-at_line-2.result c.from_residual-in_err-at_line-2.ensures.1 in
+    rw (p.1, p.2) (bad_line (rooms_of c.args.table.now) c.args.file.now g.so_far v.line v.rest.now c.in-Some.text.now c.in-Some.more.now t.result t.new.sheet (held_lines t.new.table) c.in_err-at_line-2.field-0.0 g.left_over c.in-Some.ensures.0
+    (rw v.invariant.1.0 at (t.ensures.takes g.so_far g.holds)) c.in_err-at_line-2.ensures)
 
-pub loop-rest-preserved : goal.loop-rest-preserved
-loop-rest-preserved c =
-    let v = c.loop-rest in
-    let r = rooms_of c.args.table.now in
-    let t = c.take_line in (
-      λ b. goes_on r c.args.file.now v.sheet t.new.sheet (held_lines v.table) (held_lines t.new.table) v.opened v.line v.rest.now c.in-Some.text.now c.in-Some.more.now t.result
-          c.in_ok-at_line.field-0 (v.invariant.0 b) c.in-Some.ensures.0 c.in-Some.ensures.1 (in_rooms (rooms_of v.table) r v.sheet t.new.sheet (held_lines v.table) (held_lines t.new.table) v.opened c.in-Some.text.now t.result t.ensures.takes v.invariant.1) c.in_ok-at_line.ensures,
-      t.ensures.rooms ∙ v.invariant.1,
-      t.ensures.states ∙ v.invariant.2,
-      t.ensures.steps ∙ v.invariant.3,
+pub loop-text-preserved : goal.loop-text-preserved
+loop-text-preserved c =
+    let v = c.loop-text in
+    let t = c.take_line in
+    let kept = t.ensures.areas in (
+      λ b.
+          let g = v.invariant.0 b in
+          good_line (rooms_of c.args.table.now) c.args.file.now g.so_far v.line v.rest.now c.in-Some.text.now c.in-Some.more.now t.result t.new.sheet (held_lines t.new.table) c.in_ok-at_line-2.field-0 g.left_over c.in-Some.ensures.0
+          (rw v.invariant.1.0 at (t.ensures.takes g.so_far g.holds)) c.in_ok-at_line-2.ensures,
+      (kept.0 ∙ v.invariant.1.0, kept.1 ∙ v.invariant.1.1, kept.2 ∙ v.invariant.1.2),
       omega (arith, c.in-Some.ensures.1),
     )
 
-pub returns : goal.returns
-returns c =
-    let v = c.loop-rest in
-    let e = λ (b : Blank c.args.sheet.now (held_lines c.args.table.now)). goes_end (rooms_of c.args.table.now) c.args.file.now v.sheet (held_lines v.table) v.opened v.line v.rest.now (v.invariant.0 b) c.loop-rest-test.false in
-    record { answer = λ b. (e b).0; accepted = λ b. (e b).1; rooms = v.invariant.1; states = v.invariant.2; steps = v.invariant.3 }
+pub returns-then-is_empty-clause-accepted : goal.returns-then-is_empty-clause-accepted
+returns-then-is_empty-clause-accepted c = λ b.
+    let v = c.loop-text in
+    let none : length v.rest.now ≤ 0 = grind (arith, nat_tests) in
+    (no_more (rooms_of c.args.table.now) c.args.file.now v.sheet (held_lines v.table) v.line v.rest.now (v.invariant.0 b) none).1

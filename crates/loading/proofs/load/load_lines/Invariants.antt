@@ -1,16 +1,14 @@
-use Rattle.std.proofs.Common.{◌≡◌, ◌+◌, ◌≤◌, length}
-use Rattle.machines.specs.Held.{held_lines, rooms_of}
+use Rattle.std.proofs.Common.{◌+◌, ◌≤◌, length}
+use Rattle.machines.specs.Held.{held_lines, rooms_of, SameAreas}
 use Rattle.loading.specs.Loads.{Blank}
 use Rattle.loading.proofs.OfLoop.{Goes}
 use Rattle.loading.proofs.load.load_lines.Given as goal
 
-abbrev pub invariant-loop-rest : goal.invariant-loop-rest
-invariant-loop-rest l =
-    (Blank l.initial.sheet (held_lines l.initial.table) → Goes (rooms_of l.initial.table) l.initial.file l.sheet (held_lines l.table) l.opened l.line l.rest)
-    × (rooms_of l.table ≡ rooms_of l.initial.table)
-    × (l.table.states.ghost_name ≡ l.initial.table.states.ghost_name)
-    × (l.table.steps.ghost_name ≡ l.initial.table.steps.ghost_name)
-    × (l.line + length l.rest ≤ length l.initial.file)
+abbrev pub invariant-loop-text : goal.invariant-loop-text
+invariant-loop-text l =
+    (Blank l.fn.sheet (held_lines l.fn.table) → Goes (rooms_of l.fn.table) l.file l.sheet (held_lines l.table) l.line l.rest)
+    × SameAreas l.fn.table l.table
+    × (l.line + length l.rest ≤ length l.file)
 
-abbrev pub decreases-loop-rest : goal.decreases-loop-rest
-decreases-loop-rest l = length l.rest
+abbrev pub decreases-loop-text : goal.decreases-loop-text
+decreases-loop-text l = length l.rest
