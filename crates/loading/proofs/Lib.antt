@@ -1,4 +1,3 @@
 pub mod OfPlaces
 pub mod OfTaking
 pub mod OfLoop
-pub mod OfHistory

@@ -62,10 +62,10 @@ pub fn load(sheet: &mut Sheet, table: &mut Table, file: &[u8]) -> Result<(), Fil
 {
     sheet.clear();
     table.clear();
-    let loaded = load_lines(sheet, table, file);
-    if loaded.is_err() {
+    if let Err(fault) = load_lines(sheet, table, file) {
         sheet.clear();
         table.clear();
+        return Err(fault);
     }
-    loaded
+    Ok(())
 }
