@@ -2,11 +2,10 @@
 use Rattle.std.proofs.Common.{◌≡◌, ℕ, ◌+◌, ◌<◌, ◌≤◌, Bool, true, false, ◌⊎◌, List, [], ◌∷◌, ◌++◌, length, get_or, take, drop, set, sym, refl, ap, ◌∙◌, subst, inl, inr, ⊎_elim, arith}
 use Rattle.meaning.specs.Machines.{Meaning, Among}
 use Rattle.pairs.specs.declared.pair.Pair.{Pair}
-use Rattle.pairs.specs.declared.level.Tally.{Tally}
 use Rattle.meaning.specs.Walks.{Walk, last}
 use Rattle.pairs.specs.Readers.{Reader, standing_of, Broken, Breach, Fit, Shorter, AnyWalk, after}
 use Rattle.pairs.specs.Verdicts.{Shows, Clears, Exceeds}
-use Rattle.pairs.specs.Stages.{no_pair, state_at, standing_at, parent_at, depth_at, next_at, bad, Has, Comes, Stage, StageOf, Goes_on, Grows, KeptFrom, GoodFrom, Covered, Breaks, LevelPart, Between, Begun, Rooted, chain}
+use Rattle.pairs.specs.Stages.{Tally, no_pair, state_at, standing_at, parent_at, depth_at, next_at, bad, Has, Comes, Stage, StageOf, Goes_on, Grows, KeptFrom, GoodFrom, Covered, Breaks, LevelPart, Between, Begun, Rooted, chain}
 use Rattle.std.proofs.lemmas.List.{take_more_set, drop-set-lt, length-set}
 use Rattle.pairs.proofs.Walks.{after_whole, walk_some, length_push}
 use Rattle.pairs.proofs.Cover.{has_grows, kept_grows, good_grows, covered_more, covered_none, covered_all, all_good}
@@ -131,14 +130,14 @@ module _ (m : Meaning) (r : Reader) (rows : ℕ) where
       }
 
   -- a step behind entry i ends a breach
-  pub walk_shown : (E : List Pair) (k k0 : Tally) (i t : ℕ) (F : List Pair) (room res : ℕ) (w w' : List ℕ) → StageOf m r rows E k → Between m r E k.base k.count k.depth → k0.count ≡ k.count → k.base ≤ i → i < k.count → Breaks m r rows E k0 i t F → length E ≡ room → res ≡ depth_at F i + 1 → depth_at F i < length w' → take res w' ≡ chain F (depth_at F i) i ++ (t ∷ []) → drop res w' ≡ drop res w → Shows m r room w w' res
-  walk_shown E k k0 i t F room res w w' s b ec low high h er es fits written rest =
+  pub walk_shown : (E : List Pair) (k k0 : Tally) (i t : ℕ) (F : List Pair) (k' : Tally) (room res : ℕ) (w w' : List ℕ) → StageOf m r rows E k → Between m r E k.base k.count k.depth → k0.count ≡ k.count → k.base ≤ i → i < k.count → Breaks m r rows E k0 i t F k' → length E ≡ room → res ≡ depth_at F i + 1 → depth_at F i < length w' → take res w' ≡ chain F (depth_at F i) i ++ (t ∷ []) → drop res w' ≡ drop res w → Shows m r room w w' res
+  walk_shown E k k0 i t F k' room res w w' s b ec low high h er es fits written rest =
       let same = h.goes.grows.stays i (omega arith) in
       let d = depth_at F i in
       let xs = chain F d i in
       let ed : d ≡ k.depth = ap (λ (p : Pair). p.depth) same ∙ s.fresh i low high in
       let x = subst (λ (p : Pair). Among t (m.steps p.state) × (bad m r t (r.next p.standing (m.letter p.state)) ≡ true)) (sym same) (h.step, h.breach) in
-      let l = leads m r F h.kept.count h.goes.stage.comes d i (omega (arith, h.goes.grows.more)) refl in
+      let l = leads m r F k'.count h.goes.stage.comes d i (omega (arith, h.goes.grows.more)) refl in
       let br = shown xs d (state_at F i) (standing_at F i) t l x.0 x.1 in
       record {
         within = omega arith;

@@ -2,9 +2,8 @@
 use Rattle.std.proofs.Common.{◌≡◌, ℕ, zero, suc, ◌+◌, ◌<◌, ◌≤◌, true, false, List, [], ◌∷◌, length, get_or, sym, refl, ◌∙◌, subst, inl, inr, ⊎_elim, arith, below_more}
 use Rattle.meaning.specs.Machines.{Meaning, Among}
 use Rattle.pairs.specs.declared.pair.Pair.{Pair}
-use Rattle.pairs.specs.declared.level.Tally.{Tally}
 use Rattle.pairs.specs.Readers.{Reader}
-use Rattle.pairs.specs.Stages.{state_at, depth_at, next_at, bad, Has, Comes, StageOf, Keeps, Goes_on, Tries, Left, Breaks, nothing_kept, Begun}
+use Rattle.pairs.specs.Stages.{Tally, state_at, depth_at, next_at, bad, Has, Comes, StageOf, Keeps, Goes_on, Tries, Left, Breaks, nothing_kept, Begun}
 use Rattle.pairs.proofs.Cover.{has_grows}
 use Rattle.pairs.proofs.Putting.{Put, grows_none, grows_join, keeps_put}
 
@@ -49,19 +48,19 @@ module _ (m : Meaning) (r : Reader) (rows : ℕ) where
   }
 
   -- the candidate of a step
-  pub step_comes : (E : List Pair) (k : Tally) (F : List Pair) (k' : Tally) (i t q : ℕ) → Goes_on m r rows E k F k' → StageOf m r rows E k → i < k.base → depth_at E i + 1 ≡ k.depth → Among t (m.steps (state_at E i)) → q ≡ next_at m r E i → Comes m r F k'.count (record { state = t; standing = q; parent = i; depth = k.depth })
+  pub step_comes : (E : List Pair) (k : Tally) (F : List Pair) (k' : Tally) (i t q : ℕ) → Goes_on m r rows E k F k' → StageOf m r rows E k → i < k.base → depth_at E i + 1 ≡ k.depth → Among t (m.steps (state_at E i)) → q ≡ next_at m r E i → Comes m r F k'.count (record { state = t; standing = q; parent = i; depth = k'.depth })
   step_comes E k F k' i t q g s l d a e =
       let b : i < k.count = omega (arith, s.begun) in
-      let x = subst (λ (z : Pair). Among t (m.steps z.state) × (q ≡ r.next z.standing (m.letter z.state)) × (k.depth ≡ z.depth + 1)) (sym (g.grows.stays i b)) (a, e, sym d) in
+      let x = subst (λ (z : Pair). Among t (m.steps z.state) × (q ≡ r.next z.standing (m.letter z.state)) × (k'.depth ≡ z.depth + 1)) (sym (g.grows.stays i b)) (a, e, g.depth ∙ sym d) in
       inr (omega (arith, g.grows.more), x.0, x.1, x.2)
 
-  pub leave_again : (E : List Pair) (k : Tally) (F : List Pair) (k' : Tally) (i t q x : ℕ) (G : List Pair) (k'' : Tally) → StageOf m r rows E k → i < k.base → depth_at E i + 1 ≡ k.depth → q ≡ next_at m r E i → q < rows → x < length (m.steps (state_at E i)) → t ≡ get_or (m.steps (state_at E i)) x 0 → t < m.count → bad m r t q ≡ false → Tries m r rows E k (m.steps (state_at E i)) q F k' x → Keeps F k' (record { state = t; standing = q; parent = i; depth = k.depth }) G k'' → Tries m r rows E k (m.steps (state_at E i)) q G k'' (x + 1)
+  pub leave_again : (E : List Pair) (k : Tally) (F : List Pair) (k' : Tally) (i t q x : ℕ) (G : List Pair) (k'' : Tally) → StageOf m r rows E k → i < k.base → depth_at E i + 1 ≡ k.depth → q ≡ next_at m r E i → q < rows → x < length (m.steps (state_at E i)) → t ≡ get_or (m.steps (state_at E i)) x 0 → t < m.count → bad m r t q ≡ false → Tries m r rows E k (m.steps (state_at E i)) q F k' x → Keeps F k' (record { state = t; standing = q; parent = i; depth = k'.depth }) G k'' → Tries m r rows E k (m.steps (state_at E i)) q G k'' (x + 1)
   leave_again E k F k' i t q x G k'' s l d e below lx et inside b h keeps =
-      let p : Pair = record { state = t; standing = q; parent = i; depth = k.depth } in
+      let p : Pair = record { state = t; standing = q; parent = i; depth = k'.depth } in
       let a : Among t (m.steps (state_at E i)) = rw et (index_among (m.steps (state_at E i)) x lx) in
       let c = step_comes E k F k' i t q h.goes s l d a e in
       tries_more E k (m.steps (state_at E i)) q F k' x p G k'' h
-      (keeps_put m r rows F k' p G k'' h.goes.stage c (inside, below) (sym h.goes.depth) keeps) et refl b
+      (keeps_put m r rows F k' p G k'' h.goes.stage c (inside, below) refl keeps) et refl b
 
   pub left : (E : List Pair) (k : Tally) (F : List Pair) (k' : Tally) (i q x : ℕ) → StageOf m r rows E k → i < k.base → q ≡ next_at m r E i → length (m.steps (state_at E i)) ≤ x → Tries m r rows E k (m.steps (state_at E i)) q F k' x → Left m r rows E k i F k'
   left E k F k' i q x s l e lx h =
@@ -75,11 +74,10 @@ module _ (m : Meaning) (r : Reader) (rows : ℕ) where
             (all_among (λ t. bad m r t (next_at m r E i) ≡ false) (m.steps (state_at E i)) (λ y ly. rw (← e) (h.good y (omega arith))));
       }
 
-  pub breaks : (E : List Pair) (k : Tally) (F : List Pair) (k' : Tally) (i t q x : ℕ) → q ≡ next_at m r E i → x < length (m.steps (state_at E i)) → t ≡ get_or (m.steps (state_at E i)) x 0 → bad m r t q ≡ true → Tries m r rows E k (m.steps (state_at E i)) q F k' x → Breaks m r rows E k i t F
+  pub breaks : (E : List Pair) (k : Tally) (F : List Pair) (k' : Tally) (i t q x : ℕ) → q ≡ next_at m r E i → x < length (m.steps (state_at E i)) → t ≡ get_or (m.steps (state_at E i)) x 0 → bad m r t q ≡ true → Tries m r rows E k (m.steps (state_at E i)) q F k' x → Breaks m r rows E k i t F k'
   breaks E k F k' i t q x e lx et b h = record {
     step = rw et (index_among (m.steps (state_at E i)) x lx);
     breach = rw (← e) b;
-    kept = k';
     goes = h.goes;
   }
 

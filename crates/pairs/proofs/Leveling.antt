@@ -2,9 +2,8 @@
 use Rattle.std.proofs.Common.{◌≡◌, ℕ, ◌+◌, ◌<◌, ◌≤◌, true, List, sym, ap, ◌∙◌, subst, arith, below_more}
 use Rattle.meaning.specs.Machines.{Meaning, Among}
 use Rattle.pairs.specs.declared.pair.Pair.{Pair}
-use Rattle.pairs.specs.declared.level.Tally.{Tally}
 use Rattle.pairs.specs.Readers.{Reader}
-use Rattle.pairs.specs.Stages.{depth_at, bad, StageOf, Goes_on, KeptFrom, GoodFrom, Left, Breaks, LevelPart}
+use Rattle.pairs.specs.Stages.{Tally, depth_at, bad, StageOf, Goes_on, KeptFrom, GoodFrom, Left, Breaks, LevelPart}
 use Rattle.pairs.proofs.Cover.{kept_grows, good_grows}
 use Rattle.pairs.proofs.Leaving.{goes_none, goes_join}
 
@@ -29,10 +28,10 @@ module _ (m : Meaning) (r : Reader) (rows : ℕ) where
       }
 
   -- a breach behind entry i of a later area, seen from an earlier one
-  pub breaks_back : (E : List Pair) (k : Tally) (F : List Pair) (k' : Tally) (i t : ℕ) (G : List Pair) → StageOf m r rows E k → i < k.base → Goes_on m r rows E k F k' → Breaks m r rows F k' i t G → Breaks m r rows E k i t G
-  breaks_back E k F k' i t G s l g b =
+  pub breaks_back : (E : List Pair) (k : Tally) (F : List Pair) (k' : Tally) (i t : ℕ) (G : List Pair) (k'' : Tally) → StageOf m r rows E k → i < k.base → Goes_on m r rows E k F k' → Breaks m r rows F k' i t G k'' → Breaks m r rows E k i t G k''
+  breaks_back E k F k' i t G k'' s l g b =
       let x = subst (λ (p : Pair). Among t (m.steps p.state) × (bad m r t (r.next p.standing (m.letter p.state)) ≡ true)) (g.grows.stays i (omega (arith, s.begun))) (b.step, b.breach) in
-      record { step = x.0; breach = x.1; kept = b.kept; goes = goes_join m r rows E k F k' G b.kept g b.goes }
+      record { step = x.0; breach = x.1; goes = goes_join m r rows E k F k' G k'' g b.goes }
 
   pub part_all : (E : List Pair) (k : Tally) (low x : ℕ) (F : List Pair) (k' : Tally) → k.base ≤ x → LevelPart m r rows E k low x F k' → LevelPart m r rows E k low k.base F k'
   part_all E k low x F k' l h = record { goes = h.goes; kept = λ z i a b. h.kept z i a (omega arith); good = λ i a b. h.good i a (omega arith) }

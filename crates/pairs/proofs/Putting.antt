@@ -3,9 +3,8 @@ use Rattle.std.proofs.Common.{◌≡◌, ℕ, ◌+◌, ◌<◌, ◌≤◌, Bool,
 use Rattle.std.proofs.lemmas.List.{get_or-set_same, get_or-set_other, length-set}
 use Rattle.meaning.specs.Machines.{Meaning, Among}
 use Rattle.pairs.specs.declared.pair.Pair.{Pair}
-use Rattle.pairs.specs.declared.level.Tally.{Tally}
 use Rattle.pairs.specs.Readers.{Reader}
-use Rattle.pairs.specs.Stages.{no_pair, state_at, standing_at, depth_at, next_at, Has, Comes, Stage, StageOf, Keeps, Goes_on, Grows}
+use Rattle.pairs.specs.Stages.{Tally, no_pair, state_at, standing_at, depth_at, next_at, Has, Comes, Stage, StageOf, Keeps, Goes_on, Grows}
 use Rattle.pairs.proofs.Chain.{comes_leads}
 
 below_split : (a i : ℕ) → a < i + 1 → (a < i) ⊎ (a ≡ i)

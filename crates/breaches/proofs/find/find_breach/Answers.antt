@@ -1,21 +1,12 @@
-use Rattle.std.proofs.Common.{◌≡◌, false, List, length, Err, sym, refl, ap, ◌∙◌, subst, arith, rules}
-use Rattle.meaning.specs.declared.refusals.SearchingFault.TheVariants.{Blank, NoStart, ManyStates, ShortWalkArea}
+use Rattle.std.proofs.Common.{◌≡◌, false, List, length, Err, sym, refl, ap, ◌∙◌, subst, arith}
+use Rattle.meaning.specs.declared.refusals.SearchingFault.TheVariants.{NoStart, ManyStates, ShortWalkArea}
 use Rattle.pairs.specs.declared.pair.Pair.{Pair}
 use Rattle.pairs.specs.Verdicts.{Answers}
 use Rattle.charts.specs.Watch.{blank}
-use Rattle.breaches.specs.Charts.{reader_of, standings_of}
+use Rattle.breaches.specs.Charts.{reader_of}
 use Rattle.breaches.specs.Searched.{SearchedAsRead}
-use Rattle.breaches.proofs.Ending.{blank_none, filled_some, searchable, no_starts, gone_by, searched, for_each, answered, not_early, within}
+use Rattle.breaches.proofs.Ending.{searchable, no_starts, gone_by, searched, for_each, answered, not_early, within}
 use Rattle.breaches.proofs.find.find_breach.Goals as goal
-
-pub returns-then-is_blank : goal.returns-then-is_blank
-returns-then-is_blank g c =
-    let d = c.args.chart.now in
-    let m = g.M.Machine.meaning c.args.machine.now in
-    let w = c.args.walk.now in
-    let p = length c.args.pairs.now in
-    let is : SearchedAsRead d m p w (Err Blank) w = (blank_none d.state (standings_of d) d.few (sym c.is_blank.ensures ∙ c.if-is_blank.true), refl) in
-    record { answers = for_each d m p w w (Err Blank) is; led = answered d m p w w (Err Blank) is; reads = is; within = tt; early = λ e. refl }
 
 pub returns-then-start_count-eq0 : goal.returns-then-start_count-eq0
 returns-then-start_count-eq0 g c =
@@ -59,7 +50,7 @@ returns g c =
     let p = length c.args.pairs.now in
     let x = c.run.result in
     let filled : blank d.state ≡ false = sym c.is_blank.ensures ∙ c.if-is_blank.false in
-    let h = subst (λ (ps : List Pair). Answers m (reader_of d) (length ps) w w' x) c.new-list.ensures.area c.run.ensures in
+    let h = subst (λ (ps : List Pair). Answers m (reader_of d) (length ps) w w' x) c.new.ensures.area c.run.ensures in
     let s = searchable m p (length w) (λ e. omega arith) (omega arith) (omega arith) in
     let is = searched d m (g.M.Machine.lawful c.args.machine.now) p w w' x filled s c.run.auto.walk h in
     record {
@@ -69,10 +60,3 @@ returns g c =
       within = within m (reader_of d) p w w' x h;
       early = λ e. absurd (not_early m (reader_of d) p w w' x h e);
     }
-
-pub run-requires : goal.run-requires
-run-requires g c = record {
-  filled = filled_some c.args.chart.now.state (standings_of c.args.chart.now) c.args.chart.now.enough (sym c.is_blank.ensures ∙ c.if-is_blank.false);
-  longer = search rules;
-  empty = search rules;
-}
