@@ -32,7 +32,7 @@ impl<M: Machine> Exploration<'_, M> {
     }
 
     // Keeps what entry i steps to; or breaks with a step that ends a breach.
-    fn leave(&self, kept: &mut Kept, i: usize) -> Tried
+    fn leave(&self, kept: &mut Kept, i: usize) -> Found
         requires stage { Staged (M.Machine.meaning self.now.machine.now) self.now.chart.now kept.old }
         requires below { i < kept.old.base }
         requires depth { depth_at kept.old.list.area.now i + 1 ≡ kept.old.depth }
@@ -43,7 +43,7 @@ impl<M: Machine> Exploration<'_, M> {
         for k in 0..self.step_count(p.state) {
             let state = self.step(p.state, k);
             if self.is_breach(state, standing) {
-                return ControlFlow::Break(state);
+                return ControlFlow::Break(Behind { entry: i, state });
             }
             kept.keep(Pair {
                 state,
@@ -62,9 +62,8 @@ impl<M: Machine> Exploration<'_, M> {
         requires depth { (i : ℕ) → low ≤ i → i < kept.old.base → depth_at kept.old.list.area.now i + 1 ≡ kept.old.depth }
         ensures { Levels (M.Machine.meaning self.now.machine.now) (reader_of self.now.chart.now) (standings_of self.now.chart.now) kept.old.list.area.now (tally_of kept.old) low kept.new.list.area.now (tally_of kept.new) result }
     {
-        for entry in low..kept.base {
-            self.leave(kept, entry)
-                .map_break(|state| Behind { entry, state })?;
+        for i in low..kept.base {
+            self.leave(kept, i)?;
         }
         ControlFlow::Continue(())
     }

@@ -1,11 +1,11 @@
 -- From level to level, and the three ends of a search.
-use Rattle.std.proofs.Common.{◌≡◌, ℕ, ◌+◌, ◌<◌, ◌≤◌, Bool, true, false, ◌⊎◌, List, [], ◌∷◌, ◌++◌, length, get_or, take, drop, set, sym, refl, ap, ◌∙◌, subst, inl, inr, ⊎_elim, arith}
+use Rattle.std.proofs.Common.{◌≡◌, ℕ, ◌+◌, ◌<◌, ◌≤◌, Bool, true, false, ◌⊎◌, List, [], ◌∷◌, ◌++◌, length, take, drop, set, sym, refl, ap, ◌∙◌, subst, ⊎_elim, arith}
 use Rattle.meaning.specs.Machines.{Meaning, Among}
 use Rattle.pairs.specs.declared.pair.Pair.{Pair}
 use Rattle.meaning.specs.Walks.{Walk, last}
 use Rattle.pairs.specs.Readers.{Reader, standing_of, Broken, Breach, Fit, Shorter, AnyWalk, after}
 use Rattle.pairs.specs.Verdicts.{Shows, Clears, Exceeds}
-use Rattle.pairs.specs.Stages.{Tally, no_pair, state_at, standing_at, parent_at, depth_at, next_at, bad, Has, Comes, Stage, StageOf, Goes_on, Grows, KeptFrom, GoodFrom, Covered, Breaks, LevelPart, Between, Begun, Rooted, chain}
+use Rattle.pairs.specs.Stages.{Tally, state_at, standing_at, depth_at, bad, Has, Stage, StageOf, Goes_on, Grows, KeptFrom, GoodFrom, Covered, Breaks, LevelPart, Between, Begun, chain}
 use Rattle.std.proofs.lemmas.List.{take_more_set, drop-set-lt, length-set}
 use Rattle.pairs.proofs.Walks.{after_whole, walk_some, length_push}
 use Rattle.pairs.proofs.Cover.{has_grows, kept_grows, good_grows, covered_more, covered_none, covered_all, all_good}
@@ -18,20 +18,6 @@ low_or_high i n = grind arith
 module _ (m : Meaning) (r : Reader) (rows : ℕ) where
   depth_most : (base : ℕ) (E : List Pair) (n : ℕ) (over : Bool) (j : ℕ) → Stage m r rows base E n over j → (i : ℕ) → i < n → depth_at E i ≤ j
   depth_most base E n over j s i l = ⊎_elim (λ (a : i < base). omega (arith, s.old i a)) (λ (b : base ≤ i). omega (arith, s.fresh i b l)) (low_or_high i base)
-
-  -- the next level begins
-  pub next_stage : (base : ℕ) (E : List Pair) (n : ℕ) (over : Bool) (j : ℕ) → Stage m r rows base E n over j → Stage m r rows n E n false (j + 1)
-  next_stage base E n over j s = record {
-    fits = s.fits;
-    begun = omega arith;
-    comes = s.comes;
-    inside = s.inside;
-    low = s.low;
-    old = λ i l. omega (arith, depth_most base E n over j s i l);
-    fresh = λ i b l. absurd (omega arith);
-    differ = s.differ;
-    overflow = λ e. absurd (let z : ◌≡◌ {A = ℕ} 0 1 = cc in omega arith);
-  }
 
   -- pairs that found no room: neither a walk nor clear
   pub refused : (base : ℕ) (E : List Pair) (n : ℕ) (over : Bool) (j room : ℕ) (before after : List ℕ) → after ≡ before → over ≡ true → Stage m r rows base E n over j → room ≡ length E → ((xs : List ℕ) → Walk m xs → length xs ≤ j → Broken m r xs → ⊥) → Exceeds m r room before after
@@ -108,15 +94,6 @@ module _ (m : Meaning) (r : Reader) (rows : ℕ) where
   shown xs d s q t h a b =
       let y = leads_step m r d s q t xs h a in
       (y.walks, rw (after_whole m r (xs ++ (t ∷ [])) y.walks, y.standing, y.ends) b)
-
-  rooted_from : (E : List Pair) (n : ℕ) → ((i : ℕ) → i < n → Comes m r E i (get_or E i no_pair)) → Rooted E n
-  rooted_from E n comes i l = ⊎_elim
-      (λ (a : Among (state_at E i) m.starts × (standing_at E i ≡ 0) × (depth_at E i ≡ 1)). inl a.2)
-      (λ (b : (parent_at E i < i) × Among (state_at E i) (m.steps (state_at E (parent_at E i))) × (standing_at E i ≡ next_at m r E (parent_at E i)) × (depth_at E i ≡ depth_at E (parent_at E i) + 1)). inr (b.0, b.3))
-      (comes i l)
-
-  pub rooted : (E : List Pair) (k : Tally) (i : ℕ) → StageOf m r rows E k → i < k.count → Rooted E (i + 1)
-  rooted E k i s l x h = rooted_from E k.count s.comes x (omega arith)
 
   -- a start that is itself a breach
   pub start_shown : (t room : ℕ) (w : List ℕ) → 0 < length w → Among t m.starts → bad m r t 0 ≡ true → Shows m r room w (set w 0 t) 1

@@ -1,20 +1,11 @@
 -- Keeping one pair.
-use Rattle.std.proofs.Common.{◌≡◌, ℕ, ◌+◌, ◌<◌, ◌≤◌, Bool, true, false, ◌≢◌, ◌⊎◌, List, length, get_or, set, sym, refl, ap, ◌∙◌, subst, inl, inr, ⊎_elim, arith, below_more}
+use Rattle.std.proofs.Common.{◌≡◌, ℕ, ◌+◌, ◌<◌, ◌≤◌, Bool, true, false, ◌≢◌, List, length, get_or, set, sym, refl, ap, ◌∙◌, subst, inl, inr, ⊎_elim, arith, below_more}
 use Rattle.std.proofs.lemmas.List.{get_or-set_same, get_or-set_other, length-set}
 use Rattle.meaning.specs.Machines.{Meaning, Among}
 use Rattle.pairs.specs.declared.pair.Pair.{Pair}
 use Rattle.pairs.specs.Readers.{Reader}
 use Rattle.pairs.specs.Stages.{Tally, no_pair, state_at, standing_at, depth_at, next_at, Has, Comes, Stage, StageOf, Keeps, Goes_on, Grows}
 use Rattle.pairs.proofs.Chain.{comes_leads}
-
-below_split : (a i : ℕ) → a < i + 1 → (a < i) ⊎ (a ≡ i)
-below_split a i l = grind arith
-
-pub has_more : (E : List Pair) (i s q : ℕ) → (Has E i s q → ⊥) → (state_at E i ≡ s → standing_at E i ≡ q → ⊥) → Has E (i + 1) s q → ⊥
-has_more E i s q old here h = ⊎_elim
-    (λ (l : h.at < i). old (record { at = h.at; below = l; state = h.state; standing = h.standing }))
-    (λ (e : h.at ≡ i). here (ap (state_at E) (sym e) ∙ h.state) (ap (standing_at E) (sym e) ∙ h.standing))
-    (below_split h.at i h.below)
 
 -- an area with one more entry
 module _ (E : List Pair) (n : ℕ) (p : Pair) (room : n < length E) where

@@ -15,11 +15,11 @@ pub record Tally : Type 0 where
   pub full : Bool
   pub depth : ℕ
 
--- what trying states came to: a state that ends a breach, or none
+-- what trying the starts came to: a start that is itself a breach, or none
 abbrev pub Tried : Type 0
 Tried = ControlFlow ℕ (Unit {0})
 
--- what leaving a level came to: an entry with a state behind it that ends a breach, or none
+-- what leaving entries came to: an entry with a state behind it that ends a breach, or none
 abbrev pub Found : Type 0
 Found = ControlFlow Behind (Unit {0})
 
@@ -149,8 +149,8 @@ pub record Left (m : Meaning) (r : Reader) (rows : ℕ) (E : List Pair) (k : Tal
   pub kept : k'.full ≡ false → KeptFrom m r F k'.count i
   pub good : GoodFrom m r F i
 
-abbrev pub Leaves : Meaning → Reader → ℕ → List Pair → Tally → ℕ → List Pair → Tally → Tried → Type 0
-Leaves m r rows E k i F k' (Break t) = Breaks m r rows E k i t F k'
+abbrev pub Leaves : Meaning → Reader → ℕ → List Pair → Tally → ℕ → List Pair → Tally → Found → Type 0
+Leaves m r rows E k i F k' (Break b) = (b.entry ≡ i) × Breaks m r rows E k i b.state F k'
 Leaves m r rows E k i F k' (Continue _) = Left m r rows E k i F k'
 
 -- the entries from low on, below x, were left

@@ -1,4 +1,4 @@
-// How trying states, and leaving a level of walks, ends: with a step that ends a breach, or with none.
+// How trying the starts, and leaving entries, ends: with a breach, or with none.
 use std::ops::ControlFlow;
 
 // A step that ends a breach: the entry that it leaves, and the state that it leads to.
@@ -8,8 +8,8 @@ pub struct Behind {
     pub state: usize,
 }
 
-// What trying the starts, or the states behind an entry, came to: it breaks with a state that ends a breach.
+// What trying the starts came to: it breaks with a start that is itself a breach.
 pub type Tried = ControlFlow<usize>;
 
-// What leaving a level came to: it breaks with a step that ends a breach.
+// What leaving entries came to: it breaks with a step that ends a breach.
 pub type Found = ControlFlow<Behind>;
