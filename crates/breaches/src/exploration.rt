@@ -1,4 +1,4 @@
-// What is explored: a machine, by a filled chart. The questions here stay inside their ranges, so that each has an answer.
+// Questions of an exploration that stay inside their ranges, so that each has an answer.
 ghost use Rattle.std.specs.Prelude.{◌≡◌, ℕ, ◌<◌, length, slice_index};
 ghost use Rattle.pairs.specs.Stages.{bad};
 ghost use Rattle.breaches.specs.Charts.{reader_of, standings_of};
@@ -6,6 +6,7 @@ ghost use Rattle.breaches.specs.Charts.{reader_of, standings_of};
 use charts::chart::Chart;
 use machines::machine::Machine;
 
+// A machine that is explored by a filled chart.
 #[derive(Drop)]
 pub(crate) struct Exploration<'a, M> {
     pub(crate) machine: &'a M,

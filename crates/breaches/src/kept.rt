@@ -59,6 +59,7 @@ impl<'a> Kept<'a> {
         let depth = self.entry(end.entry).depth;
         walk[depth] = end.state;
         let mut at = end.entry;
+        // Kept: over `walk[..depth].iter_mut().rev()` the proof didn't close, since an invariant can't name what is written there.
         for place in (0..depth).rev() {
             let p = self.entry(at);
             walk[place] = p.state;
