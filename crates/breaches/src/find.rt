@@ -43,9 +43,8 @@ impl<M: Machine> Exploration<'_, M> {
         if kept.full {
             return Err(SearchingFault::PairsExceed);
         }
-        Ok(Verdict::Clear {
-            pairs: kept.list.len(),
-        })
+        let pairs = kept.list.len();
+        Ok(Verdict::Clear { pairs })
     }
 }
 
