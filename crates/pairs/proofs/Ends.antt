@@ -5,10 +5,10 @@ use Rattle.pairs.specs.declared.pair.Pair.{Pair}
 use Rattle.meaning.specs.Walks.{Walk, last}
 use Rattle.pairs.specs.Readers.{Reader, standing_of, Broken, Breach, Fit, Shorter, AnyWalk, after}
 use Rattle.pairs.specs.Verdicts.{Shows, Clears, Exceeds}
-use Rattle.pairs.specs.Stages.{Tally, state_at, standing_at, depth_at, bad, Has, Stage, StageOf, Goes_on, Grows, KeptFrom, GoodFrom, Covered, Breaks, LevelPart, Between, Begun, chain}
+use Rattle.pairs.specs.Stages.{Tally, state_at, standing_at, depth_at, bad, Has, Stage, StageOf, Goes_on, Grows, KeptFrom, GoodFrom, Covered, Breaks, LevelPart, Between, chain}
 use Rattle.std.proofs.lemmas.List.{take_more_set, drop-set-lt, length-set}
 use Rattle.pairs.proofs.Walks.{after_whole, walk_some, length_push}
-use Rattle.pairs.proofs.Cover.{has_grows, kept_grows, good_grows, covered_more, covered_none, covered_all, all_good}
+use Rattle.pairs.proofs.Cover.{has_grows, kept_grows, good_grows, covered_more, covered_all, all_good}
 use Rattle.pairs.proofs.Chain.{Leads, leads, leads_step}
 use Rattle.pairs.proofs.Count.{counted, too_many}
 
@@ -29,19 +29,6 @@ module _ (m : Meaning) (r : Reader) (rows : ℕ) where
         (λ i xs l x. omega (arith, x.states, depth_most base E n over j s i l)) o (omega (arith, o.short)) (rw e at h.fit);
     no_clear = λ h. too_many m r AnyWalk rows base E n over j s (λ i xs l x. tt) (s.overflow full) tt (rw e at h.fit);
     stays = stay;
-  }
-
-  pub begin_clean : (E : List Pair) → ((s : ℕ) → Among s m.starts → bad m r s 0 ≡ false) → (xs : List ℕ) → Walk m xs → length xs ≤ 1 → Broken m r xs → ⊥
-  begin_clean E good = all_good m r E 0 0 (covered_none m r E 0) good (λ i l. absurd (omega arith))
-
-  pub begin_between : (E F : List Pair) (k : Tally) → Begun m r rows E F k → k.full ≡ false → Between m r F 0 k.count 1
-  begin_between E F k b f = record {
-    starts_kept = b.kept f;
-    starts_good = b.good;
-    kept = λ i l. absurd (omega arith);
-    good = λ i l. absurd (omega arith);
-    covered = covered_more m r F 0 0 F k.count (covered_none m r F 0) (b.kept f) (λ i l. absurd (omega arith)) (record { more = omega arith; same_length = refl; stays = λ i l. refl });
-    clean = begin_clean F b.good;
   }
 
   -- all that is kept before the level was left
@@ -129,10 +116,7 @@ module _ (m : Meaning) (r : Reader) (rows : ℕ) where
         rest = rest;
       }
 
-  -- the invariant of the search, before the first level and after one
-  pub begin_holds : (E F : List Pair) (k : Tally) → Begun m r rows E F k → k.full ≡ false → Between m r F k.base k.count k.depth
-  begin_holds E F k b f = rw (b.base, b.depth) (begin_between E F k b f)
-
+  -- the invariant of the exploration, after one more level
   pub level_again : (E : List Pair) (k k0 : Tally) (F : List Pair) (k' : Tally) → k0.count ≡ k.count → k0.base ≡ k.count → k0.depth ≡ k.depth + 1 → Between m r E k.base k.count k.depth → LevelPart m r rows E k0 k.base k0.base F k' → k'.full ≡ false → Between m r F k'.base k'.count k'.depth
   level_again E k k0 F k' ec eb ed b p z =
       let x = level_between E k0 k.base k.count k.depth F k' (sym ec) (sym eb) b p z in

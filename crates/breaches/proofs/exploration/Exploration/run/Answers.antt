@@ -1,7 +1,7 @@
 use Rattle.std.proofs.Common.{◌<◌, ◌≤◌, length, drop, sym, refl, ap, ◌∙◌, arith}
 use Rattle.pairs.specs.Stages.{depth_at}
-use Rattle.pairs.proofs.Ends.{refused, begin_clean, begin_holds, level_clean, level_again, cleared, start_shown, walk_shown}
-use Rattle.breaches.specs.Charts.{reader_of, standings_of}
+use Rattle.pairs.proofs.Ends.{refused, level_clean, level_again, cleared, start_shown, walk_shown}
+use Rattle.breaches.specs.Charts.{standings_of}
 use Rattle.breaches.specs.Counts.{tally_of}
 use Rattle.breaches.proofs.exploration.Exploration.run.Goals as goal
 use Rattle.breaches.proofs.exploration.Exploration.run.Goals.{then-loop-kept-test+else-kept-len, else-loop-kept-test}
@@ -11,18 +11,6 @@ pub returns-in-Break : goal.returns-in-Break
 returns-in-Break g c =
     let h = c.in-Break.ensures in
     start_shown _ _ (standings_of c.args.self.now.chart.now) _ _ _ (omega (arith, c.requires.longer)) h.0 h.1
-
-pub loop-kept-init : goal.loop-kept-init
-loop-kept-init g c =
-    let m = g.M.Machine.meaning c.args.self.now.machine.now in
-    let b = c.in_default.ensures in
-    record {
-      stage = b.stage;
-      clean = λ xs w l. begin_clean m (reader_of c.args.self.now.chart.now) (standings_of c.args.self.now.chart.now) c.begin.new.kept.list.area.now b.good xs w (omega (arith, b.depth));
-      between = begin_holds _ _ _ _ _ (tally_of c.begin.new.kept) b;
-      walk = refl;
-      area = b.same_length;
-    }
 
 pub overflow_add-kept : goal.overflow_add-kept
 overflow_add-kept g c =
