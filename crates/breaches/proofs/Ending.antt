@@ -1,5 +1,5 @@
 -- The answer of a search, from what its reader says to each formula that this reads.
-use Rattle.std.proofs.Common.{◌≡◌, ℕ, ◌<◌, ◌≤◌, Bool, false, List, [], ◌∷◌, length, Some, None, Ok, Err, Option, Result, sym, refl, ap, ◌∙◌, subst, arith}
+use Rattle.std.proofs.Common.{◌≡◌, ℕ, ◌<◌, ◌≤◌, Bool, false, List, length, Some, None, Ok, Err, Option, Result, sym, refl, ap, ◌∙◌, subst, arith}
 use mathlib.Core.Logic.{∥∥₁_map}
 use mathlib.Core.Bool.{false≢true}
 use Rattle.meaning.specs.declared.answers.Verdict.{Verdict}
@@ -43,11 +43,6 @@ none_blank Broken n h e = absurd (omega arith)
 -- what is not refused before it looks
 pub searchable : (m : Meaning) (pairs walk : ℕ) → (length m.starts ≡ 0 → ⊥) → m.count ≤ 65536 → pairs < walk → Searchable m pairs walk
 searchable m pairs walk some few longer = record { a_start = λ e. some (ap length e); few_states = few; long_area = longer }
-
--- no start is an empty list of starts
-pub no_starts : (xs : List ℕ) → length xs ≡ 0 → xs ≡ []
-no_starts [] e = refl
-no_starts (x ∷ xs) e = absurd (omega arith)
 
 -- a filled chart reads some formula
 pub reads_some : (c : Chart) → 0 < standings_of c → ∥ ((f : Formula) × Reads f (reader_of c)) ∥₁

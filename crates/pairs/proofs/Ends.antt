@@ -1,30 +1,28 @@
 -- From level to level, and the three ends of a search.
-use Rattle.std.proofs.Common.{◌≡◌, ℕ, ◌+◌, ◌<◌, ◌≤◌, Bool, true, false, ◌⊎◌, List, [], ◌∷◌, ◌++◌, length, take, drop, set, sym, refl, ap, ◌∙◌, subst, ⊎_elim, arith}
+use Rattle.std.proofs.Common.{◌≡◌, ℕ, ◌+◌, ◌<◌, ◌≤◌, Bool, true, false, List, [], ◌∷◌, ◌++◌, length, take, drop, set, sym, refl, ap, ◌∙◌, subst, ⊎_elim, arith}
 use Rattle.meaning.specs.Machines.{Meaning, Among}
 use Rattle.pairs.specs.declared.pair.Pair.{Pair}
 use Rattle.meaning.specs.Walks.{Walk, last}
 use Rattle.pairs.specs.Readers.{Reader, standing_of, Broken, Breach, Fit, Shorter, AnyWalk, after}
 use Rattle.pairs.specs.Verdicts.{Shows, Clears, Exceeds}
 use Rattle.pairs.specs.Stages.{Tally, state_at, standing_at, depth_at, bad, Has, Stage, StageOf, Goes_on, Grows, KeptFrom, GoodFrom, Covered, Breaks, LevelPart, Between, chain}
-use Rattle.std.proofs.lemmas.List.{take_more_set, drop-set-lt, length-set}
-use Rattle.pairs.proofs.Walks.{after_whole, walk_some, length_push}
+use Rattle.std.proofs.lemmas.Bool.{cases_lt}
+use Rattle.std.proofs.lemmas.List.{length_push, take_more_set, drop-set-lt, length-set}
+use Rattle.pairs.proofs.Walks.{after_whole, walk_some}
 use Rattle.pairs.proofs.Cover.{has_grows, kept_grows, good_grows, covered_more, covered_all, all_good}
 use Rattle.pairs.proofs.Chain.{Leads, leads, leads_step}
 use Rattle.pairs.proofs.Count.{counted, too_many}
 
-low_or_high : (i n : ℕ) → (i < n) ⊎ (n ≤ i)
-low_or_high i n = grind arith
-
 module _ (m : Meaning) (r : Reader) (rows : ℕ) where
   depth_most : (base : ℕ) (E : List Pair) (n : ℕ) (over : Bool) (j : ℕ) → Stage m r rows base E n over j → (i : ℕ) → i < n → depth_at E i ≤ j
-  depth_most base E n over j s i l = ⊎_elim (λ (a : i < base). omega (arith, s.old i a)) (λ (b : base ≤ i). omega (arith, s.fresh i b l)) (low_or_high i base)
+  depth_most base E n over j s i l = ⊎_elim (λ (a : i < base). omega (arith, s.old i a)) (λ (b : base ≤ i). omega (arith, s.fresh i b l)) (cases_lt i base)
 
   -- pairs that found no room: neither a walk nor clear
   pub refused : (base : ℕ) (E : List Pair) (n : ℕ) (over : Bool) (j room : ℕ) (before after : List ℕ) → after ≡ before → over ≡ true → Stage m r rows base E n over j → room ≡ length E → ((xs : List ℕ) → Walk m xs → length xs ≤ j → Broken m r xs → ⊥) → Exceeds m r room before after
   refused base E n over j room before after stay full s e clean = record {
     no_walk = λ h.
         let o = s.overflow full in
-        let long : j < length h.walk = ⊎_elim (λ (a : j < length h.walk). a) (λ (b : length h.walk ≤ j). absurd (clean h.walk h.shortest.breach.0 b h.shortest.breach.1)) (low_or_high j (length h.walk)) in
+        let long : j < length h.walk = ⊎_elim (λ (a : j < length h.walk). a) (λ (b : length h.walk ≤ j). absurd (clean h.walk h.shortest.breach.0 b h.shortest.breach.1)) (cases_lt j (length h.walk)) in
         too_many m r (Shorter (length h.walk)) rows base E n over j s
         (λ i xs l x. omega (arith, x.states, depth_most base E n over j s i l)) o (omega (arith, o.short)) (rw e at h.fit);
     no_clear = λ h. too_many m r AnyWalk rows base E n over j s (λ i xs l x. tt) (s.overflow full) tt (rw e at h.fit);
@@ -36,7 +34,7 @@ module _ (m : Meaning) (r : Reader) (rows : ℕ) where
   level_good E k low n j F k' e f b p i l = ⊎_elim
       (λ (a : i < low). good_grows m r E k.count F k'.count i p.goes.grows (omega arith) (b.good i a))
       (λ (a : low ≤ i). p.good i a (omega arith))
-      (low_or_high i low)
+      (cases_lt i low)
 
   level_covered : (E : List Pair) (k : Tally) (low n j : ℕ) (F : List Pair) (k' : Tally) → n ≡ k.count → Between m r E low n j → Goes_on m r rows E k F k' → Covered m r F n j
   level_covered E k low n j F k' e b g xs w l =
@@ -52,7 +50,7 @@ module _ (m : Meaning) (r : Reader) (rows : ℕ) where
       let kept : (i : ℕ) → i < n → KeptFrom m r F k'.count i = λ i l. ⊎_elim
       (λ (a : i < low). kept_grows m r E n F k'.count i g l (b.kept i a))
       (λ (a : low ≤ i). p.kept z i a (omega arith))
-      (low_or_high i low) in
+      (cases_lt i low) in
       record {
         starts_kept = starts;
         starts_good = b.starts_good;
@@ -110,7 +108,7 @@ module _ (m : Meaning) (r : Reader) (rows : ℕ) where
           least = λ ys y. ⊎_elim
               (λ (a : length ys < length (xs ++ (t ∷ []))). absurd (b.clean ys y.0 (omega (arith, length_push xs t, l.states)) y.1))
               (λ (a : length (xs ++ (t ∷ [])) ≤ length ys). a)
-              (low_or_high (length ys) (length (xs ++ (t ∷ []))));
+              (cases_lt (length ys) (length (xs ++ (t ∷ []))));
         });
         fit = level_fit k.base E k.count k.full k.depth room res s b.covered er (omega arith);
         rest = rest;

@@ -1,10 +1,11 @@
 use Rattle.std.proofs.Common.{length, refl, ap, ◌∙◌, arith}
-use Rattle.breaches.proofs.Ending.{searchable, no_starts, gone_by, searched, told, not_early, within}
+use Rattle.std.proofs.lemmas.List.{nil_from_length}
+use Rattle.breaches.proofs.Ending.{searchable, gone_by, searched, told, not_early, within}
 use Rattle.breaches.proofs.find.find_breach.Goals as goal
 
 pub returns-then-start_count-eq0 : goal.returns-then-start_count-eq0
 returns-then-start_count-eq0 g c = told _ _ _ _ _ _ _
-    (gone_by _ _ _ _ _ _ _ c.is_blank.ensures c.if-is_blank.false (λ f reads. (no_starts _ (omega (arith, c.start_count.ensures, c.if-start_count-eq0.true)), refl)))
+    (gone_by _ _ _ _ _ _ _ c.is_blank.ensures c.if-is_blank.false (λ f reads. (nil_from_length _ (omega (arith, c.start_count.ensures, c.if-start_count-eq0.true)), refl)))
     tt (λ e. refl)
 
 pub returns-then-count-gt65536 : goal.returns-then-count-gt65536
