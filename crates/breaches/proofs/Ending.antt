@@ -1,5 +1,5 @@
 -- The answer of a search, from what its reader says to each formula that this reads.
-use Rattle.std.proofs.Common.{◌≡◌, ℕ, ◌<◌, ◌≤◌, true, false, List, [], ◌∷◌, length, Some, None, Ok, Err, Option, Result, sym, refl, ap, subst, arith}
+use Rattle.std.proofs.Common.{◌≡◌, ℕ, ◌<◌, ◌≤◌, Bool, false, List, length, Some, None, Ok, Err, Option, Result, sym, refl, ap, ◌∙◌, subst, arith}
 use mathlib.Core.Logic.{∥∥₁_map}
 use mathlib.Core.Bool.{false≢true}
 use Rattle.meaning.specs.declared.answers.Verdict.{Verdict}
@@ -27,13 +27,7 @@ use Rattle.pairs.proofs.Ruled.{searches}
 use Rattle.breaches.specs.Charts.{reader_of, standings_of}
 use Rattle.breaches.specs.Searched.{GoneBy, Searched, SearchedAsRead, Early, Within}
 
--- a blank chart has no standings, and any other has one
-pub blank_none : (s : State) (n : ℕ) → n ≤ most s → blank s ≡ true → n ≡ 0
-blank_none BlankState n h e = omega arith
-blank_none Ready n h e = absurd (false≢true e)
-blank_none (Watching q) n h e = absurd (false≢true e)
-blank_none Broken n h e = absurd (false≢true e)
-
+-- a chart that is not blank has a standing
 pub filled_some : (s : State) (n : ℕ) → least s ≤ n → blank s ≡ false → 0 < n
 filled_some BlankState n h e = absurd (false≢true (sym e))
 filled_some Ready n h e = omega arith
@@ -50,31 +44,26 @@ none_blank Broken n h e = absurd (omega arith)
 pub searchable : (m : Meaning) (pairs walk : ℕ) → (length m.starts ≡ 0 → ⊥) → m.count ≤ 65536 → pairs < walk → Searchable m pairs walk
 searchable m pairs walk some few longer = record { a_start = λ e. some (ap length e); few_states = few; long_area = longer }
 
--- no start is an empty list of starts
-pub no_starts : (xs : List ℕ) → length xs ≡ 0 → xs ≡ []
-no_starts [] e = refl
-no_starts (x ∷ xs) e = absurd (omega arith)
-
 -- a filled chart reads some formula
 pub reads_some : (c : Chart) → 0 < standings_of c → ∥ ((f : Formula) × Reads f (reader_of c)) ∥₁
 reads_some c some =
     ∥∥₁_map (whole_some c.labels.now c.label_count c.standings.now c.standing_count c.next.now c.state some c.whole)
     (λ x. (x.0, filled_charts_read x.0 x.1.ks x.1.keeps x.1.few_kept c.labels.now c.label_count c.standings.now c.standing_count c.next.now x.1.filled))
 
-pub gone_by : (c : Chart) (m : Meaning) (room : ℕ) (before : List ℕ) (x : Result Verdict SearchingFault) (after : List ℕ) → blank c.state ≡ false
+pub gone_by : (c : Chart) (m : Meaning) (room : ℕ) (before : List ℕ) (x : Result Verdict SearchingFault) (after : List ℕ) (b : Bool) → b ≡ blank c.state → b ≡ false
     → ((f : Formula) → Reads f (reader_of c) → Searches f m room before (x, after)) → GoneBy c m room before x after
-gone_by c m room before x after e each =
-    let some = filled_some c.state (standings_of c) c.enough e in
+gone_by c m room before x after b eb f each =
+    let some = filled_some c.state (standings_of c) c.enough (sym eb ∙ f) in
     record { filled = some; some = reads_some c some; each = each }
 
-pub searched : (c : Chart) (m : Meaning) → Lawful m → (room : ℕ) (before after : List ℕ) (x : Result Verdict SearchingFault) → blank c.state ≡ false → Searchable m room (length before)
+pub searched : (c : Chart) (m : Meaning) → Lawful m → (room : ℕ) (before after : List ℕ) (x : Result Verdict SearchingFault) (b : Bool) → b ≡ blank c.state → b ≡ false → Searchable m room (length before)
     → length after ≡ length before → Answers m (reader_of c) room before after x → SearchedAsRead c m room before x after
-searched c m l room before after (Ok v) b s e h = gone_by c m room before (Ok v) after b (λ f reads. searches m l f (reader_of c) reads room before after (Ok v) s e h)
-searched c m l room before after (Err PairsExceed) b s e h = gone_by c m room before (Err PairsExceed) after b (λ f reads. searches m l f (reader_of c) reads room before after (Err PairsExceed) s e h)
-searched c m l room before after (Err Blank) b s e h = absurd h
-searched c m l room before after (Err NoStart) b s e h = absurd h
-searched c m l room before after (Err ManyStates) b s e h = absurd h
-searched c m l room before after (Err ShortWalkArea) b s e h = absurd h
+searched c m l room before after (Ok v) b eb f s e h = gone_by c m room before (Ok v) after b eb f (λ form reads. searches m l form (reader_of c) reads room before after (Ok v) s e h)
+searched c m l room before after (Err PairsExceed) b eb f s e h = gone_by c m room before (Err PairsExceed) after b eb f (λ form reads. searches m l form (reader_of c) reads room before after (Err PairsExceed) s e h)
+searched c m l room before after (Err Blank) b eb f s e h = absurd h
+searched c m l room before after (Err NoStart) b eb f s e h = absurd h
+searched c m l room before after (Err ManyStates) b eb f s e h = absurd h
+searched c m l room before after (Err ShortWalkArea) b eb f s e h = absurd h
 
 -- right for each formula that it reads, whether or not it reads one
 pub for_each : (c : Chart) (m : Meaning) (room : ℕ) (before after : List ℕ) (x : Result Verdict SearchingFault) → SearchedAsRead c m room before x after → Searched c m room before x after
@@ -142,3 +131,13 @@ pub within : (m : Meaning) (r : Reader) (room : ℕ) (before after : List ℕ) (
 within m r room before after (Ok (Shown k)) h = h.within
 within m r room before after (Ok (Clear n)) h = tt
 within m r room before after (Err e) h = tt
+
+-- the clauses on an answer, from what it says as the chart reads
+pub told : (c : Chart) (m : Meaning) (room : ℕ) (before after : List ℕ) (x : Result Verdict SearchingFault) (P : Type 0) → SearchedAsRead c m room before x after → Within x (length after) → (Early x → P) → record {
+  answers : Searched c m room before x after;
+  reads : SearchedAsRead c m room before x after;
+  led : (h : History) (n : ℕ) (k : Machine) → ChartLed h n c → meaning_of h k ≡ m → Right h (searching n k room before) (x, after);
+  within : Within x (length after);
+  early : Early x → P;
+}
+told c m room before after x P is fits kept = record { answers = for_each c m room before after x is; reads = is; led = answered c m room before after x is; within = fits; early = kept }

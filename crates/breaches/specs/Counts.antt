@@ -1,14 +1,13 @@
--- The count of the pairs kept is the list's length. Assumes nothing.
-use Rattle.std.specs.Prelude.{◌≡◌, ℕ}
-use Rattle.pairs.specs.declared.level.Tried.{Tried}
-use Rattle.pairs.specs.declared.level.Tried.TheVariants.{Broken, Done}
-use Rattle.pairs.specs.declared.level.Found.{Found}
-use Rattle.pairs.specs.declared.level.Found.TheVariants.{Behind, Through}
+-- How far an exploration has come, by the pairs kept. Their count is the list's length. Assumes nothing.
+use Rattle.meaning.specs.Machines.{Meaning}
+use Rattle.charts.specs.declared.chart.Chart.{Chart}
+use Rattle.pairs.specs.Stages.{Tally, StageOf}
+use Rattle.breaches.specs.declared.kept.Kept.{Kept}
+use Rattle.breaches.specs.Charts.{reader_of, standings_of}
 
-abbrev pub TriedCount : Tried → ℕ → Type 0
-TriedCount (Broken t) n = Unit {0}
-TriedCount (Done k) n = k.count ≡ n
+abbrev pub tally_of : Kept → Tally
+tally_of k = record { base = k.base; count = k.list.len; full = k.full; depth = k.depth }
 
-abbrev pub FoundCount : Found → ℕ → Type 0
-FoundCount (Behind i t) n = Unit {0}
-FoundCount (Through k) n = k.count ≡ n
+-- the pairs kept are at a stage of an exploration of m by c
+abbrev pub Staged : Meaning → Chart → Kept → Type 0
+Staged m c k = StageOf m (reader_of c) (standings_of c) k.list.area.now (tally_of k)

@@ -1,140 +1,70 @@
 // Walks of one state, of two states, and so on: each candidate is tested before its pair is kept.
-ghost use Rattle.std.specs.Prelude.{◌≡◌, ℕ, ◌+◌, ◌<◌, ◌≤◌, length, slice_index_or};
-ghost use Rattle.pairs.specs.Stages.{no_pair, StageOf, Keeps, Leaves, Levels, Begins, depth_at};
+ghost use Rattle.std.specs.Prelude.{◌≡◌, ℕ, ◌+◌, ◌<◌, ◌≤◌};
+ghost use Rattle.pairs.specs.Stages.{nothing_kept, Begins, Leaves, Levels, depth_at};
 ghost use Rattle.breaches.specs.Charts.{reader_of, standings_of};
-ghost use Rattle.breaches.specs.Counts.{TriedCount, FoundCount};
+ghost use Rattle.breaches.specs.Counts.{tally_of, Staged};
 
-use crate::asking::{breach_at, follow, letter_of, start_of, step_of, steps_of};
-use charts::chart::Chart;
+use crate::exploration::Exploration;
+use crate::kept::Kept;
 use machines::machine::Machine;
-use once::KeepOnce;
-use pairs::level::{Found, Tally, Tried};
+use pairs::level::{Behind, Found, Tried};
 use pairs::pair::Pair;
+use std::ops::ControlFlow;
 
-// Entry i.
-pub(crate) fn entry(list: &KeepOnce<Pair>, i: usize) -> Pair
-    requires { i < list.now.len }
-    ensures { result ≡ slice_index_or list.now.area.now i no_pair }
-{
-    let Some(p) = list.get(i) else { unreachable() };
-    *p
-}
-
-// Keeps p, if it is new and there is room.
-fn keep(list: &mut KeepOnce<Pair>, tally: Tally, p: Pair) -> Tally
-    requires { tally.count ≡ list.old.len }
-    ensures keeps { Keeps list.old.area.now tally p list.new.area.now result }
-    ensures len { result.count ≡ list.new.len }
-{
-    match list.add(p) {
-        Some(_x) => Tally {
-            base: tally.base,
-            count: list.len(),
-            full: tally.full,
-            depth: tally.depth,
-        },
-        None => Tally {
-            base: tally.base,
-            count: tally.count,
-            full: true,
-            depth: tally.depth,
-        },
-    }
-}
-
-// Keeps the starts; or a start that is itself a breach.
-pub(crate) fn begin<M: Machine>(m: &M, chart: &Chart, list: &mut KeepOnce<Pair>) -> Tried
-    requires filled { 0 < standings_of chart.now }
-    requires empty { list.old.len ≡ 0 }
-    ensures count { TriedCount result list.new.len }
-    ensures begins { Begins (M.Machine.meaning m.now) (reader_of chart.now) (standings_of chart.now) list.old.area.now list.new.area.now result }
-{
-    let mut tally = Tally {
-        base: 0,
-        count: 0,
-        full: false,
-        depth: 1,
-    };
-    for k in 0..m.start_count() {
-        let s = start_of(m, k);
-        if breach_at(m, chart, s, 0) {
-            return Tried::Broken(s);
-        }
-        tally = keep(
-            list,
-            tally,
-            Pair {
-                state: s,
-                standing: 0,
-                parent: 0,
+impl<M: Machine> Exploration<'_, M> {
+    // Keeps the starts; or breaks with a start that is itself a breach.
+    pub(crate) fn begin(&self, kept: &mut Kept) -> Tried
+        requires fresh { tally_of kept.old ≡ nothing_kept }
+        ensures { Begins (M.Machine.meaning self.now.machine.now) (reader_of self.now.chart.now) (standings_of self.now.chart.now) kept.old.list.area.now kept.new.list.area.now (tally_of kept.new) result }
+    {
+        for k in 0..self.machine.start_count() {
+            let state = self.start(k);
+            if self.is_breach(state, 0) {
+                return ControlFlow::Break(state);
+            }
+            kept.keep(Pair {
+                state,
                 depth: 1,
-            },
-        );
-    }
-    Tried::Done(tally)
-}
-
-// Keeps what entry i steps to; or a step that ends a breach.
-fn leave<M: Machine>(
-    m: &M,
-    chart: &Chart,
-    list: &mut KeepOnce<Pair>,
-    i: usize,
-    start: Tally,
-) -> Tried
-    requires stage { StageOf (M.Machine.meaning m.now) (reader_of chart.now) (standings_of chart.now) list.old.area.now start }
-    requires below { i < start.base }
-    requires depth { depth_at list.old.area.now i + 1 ≡ start.depth }
-    requires count { start.count ≡ list.old.len }
-    ensures count { TriedCount result list.new.len }
-    ensures more { list.old.len ≤ list.new.len }
-    ensures leaves { Leaves (M.Machine.meaning m.now) (reader_of chart.now) (standings_of chart.now) list.old.area.now start i list.new.area.now result }
-{
-    let p = entry(list, i);
-    let a = letter_of(m, p.state);
-    let q = follow(chart, p.standing, a);
-    let mut tally = start;
-    for k in 0..steps_of(m, p.state) {
-        let t = step_of(m, p.state, k);
-        if breach_at(m, chart, t, q) {
-            return Tried::Broken(t);
+                ..Pair::BLANK
+            });
         }
-        tally = keep(
-            list,
-            tally,
-            Pair {
-                state: t,
-                standing: q,
+        ControlFlow::Continue(())
+    }
+
+    // Keeps what entry i steps to; or breaks with a step that ends a breach.
+    fn leave(&self, kept: &mut Kept, i: usize) -> Found
+        requires stage { Staged (M.Machine.meaning self.now.machine.now) self.now.chart.now kept.old }
+        requires below { i < kept.old.base }
+        requires depth { depth_at kept.old.list.area.now i + 1 ≡ kept.old.depth }
+        ensures { Leaves (M.Machine.meaning self.now.machine.now) (reader_of self.now.chart.now) (standings_of self.now.chart.now) kept.old.list.area.now (tally_of kept.old) i kept.new.list.area.now (tally_of kept.new) result }
+    {
+        let p = kept.entry(i);
+        let standing = self.standing_after(p.state, p.standing);
+        for k in 0..self.step_count(p.state) {
+            let state = self.step(p.state, k);
+            if self.is_breach(state, standing) {
+                return ControlFlow::Break(Behind { entry: i, state });
+            }
+            kept.keep(Pair {
+                state,
+                standing,
                 parent: i,
-                depth: start.depth,
-            },
-        );
-    }
-    Tried::Done(tally)
-}
-
-// Leaves the entries from `low` on up to the present level; or a step behind one of them that ends a breach.
-pub(crate) fn level<M: Machine>(
-    m: &M,
-    chart: &Chart,
-    list: &mut KeepOnce<Pair>,
-    low: usize,
-    start: Tally,
-) -> Found
-    requires stage { StageOf (M.Machine.meaning m.now) (reader_of chart.now) (standings_of chart.now) list.old.area.now start }
-    requires order { low ≤ start.base }
-    requires depth { (i : ℕ) → low ≤ i → i < start.base → depth_at list.old.area.now i + 1 ≡ start.depth }
-    requires count { start.count ≡ list.old.len }
-    ensures count { FoundCount result list.new.len }
-    ensures more { list.old.len ≤ list.new.len }
-    ensures levels { Levels (M.Machine.meaning m.now) (reader_of chart.now) (standings_of chart.now) list.old.area.now start low list.new.area.now result }
-{
-    let mut tally = start;
-    for i in low..start.base {
-        match leave(m, chart, list, i, tally) {
-            Tried::Broken(t) => return Found::Behind(i, t),
-            Tried::Done(more) => tally = more,
+                depth: kept.depth,
+            });
         }
+        ControlFlow::Continue(())
     }
-    Found::Through(tally)
+
+    // Leaves the entries from `low` on up to the present level; or breaks with a step behind one of them that ends a breach.
+    pub(crate) fn level(&self, kept: &mut Kept, low: usize) -> Found
+        requires stage { Staged (M.Machine.meaning self.now.machine.now) self.now.chart.now kept.old }
+        requires order { low ≤ kept.old.base }
+        requires depth { (i : ℕ) → low ≤ i → i < kept.old.base → depth_at kept.old.list.area.now i + 1 ≡ kept.old.depth }
+        ensures { Levels (M.Machine.meaning self.now.machine.now) (reader_of self.now.chart.now) (standings_of self.now.chart.now) kept.old.list.area.now (tally_of kept.old) low kept.new.list.area.now (tally_of kept.new) result }
+    {
+        for i in low..kept.base {
+            self.leave(kept, i)?;
+        }
+        ControlFlow::Continue(())
+    }
 }

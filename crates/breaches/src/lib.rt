@@ -2,6 +2,7 @@
 // The report (`report`) stands on it.
 #![tactic(auto)]
 
-mod asking;
+mod exploration;
 pub mod find;
+mod kept;
 mod levels;

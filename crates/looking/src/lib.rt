@@ -1,3 +1,3 @@
+// The call that looks for a breach, under a name that crates with code can cite: one definition, no running code.
+// Finding breaches (`breaches`) stands on it.
 #![tactic(auto)]
-
-// The call that looks for a breach, under a name that crates with code can cite. One definition, no running code.

@@ -1,9 +1,9 @@
 -- What an addition to a keep-once list says of the pairs kept.
-use Rattle.std.proofs.Common.{◌≡◌, ℕ, ◌+◌, ◌<◌, List, length, set, Some, sym, refl, ap, ◌∙◌, subst, inl, inr, ⊎_elim, arith}
+use Rattle.std.proofs.Common.{◌≡◌, ℕ, ◌+◌, ◌<◌, true, List, length, set, Some, None, Option, is_some, refl, inl, inr, ⊎_elim}
+use mathlib.Core.Bool.{false≢true}
 use Rattle.once.specs.Once.{New, At, Adds}
 use Rattle.pairs.specs.declared.pair.Pair.{Pair}
-use Rattle.pairs.specs.declared.level.Tally.{Tally}
-use Rattle.pairs.specs.Stages.{no_pair, Has, Keeps}
+use Rattle.pairs.specs.Stages.{Tally, no_pair, Has, Keeps}
 
 abbrev pub alike : Pair → Pair → Type 0
 alike p q = (p.state ≡ q.state) × (p.standing ≡ q.standing)
@@ -14,19 +14,14 @@ at_has E n x p h = let a = h.1 no_pair in record { at = x; below = h.0; state = 
 new_missing : (E : List Pair) (n : ℕ) (p : Pair) → New alike E n p → Has E n p.state p.standing → ⊥
 new_missing E n p new h = new h.at no_pair h.below (h.state, h.standing)
 
-pub adds_keeps : (E : List Pair) (n x : ℕ) (p : Pair) (F : List Pair) (l c : ℕ) (k : Tally) → k.count ≡ n → c ≡ l → Adds alike E n p (Some x) F l → Keeps E k p F (record { base = k.base; count = c; full = k.full; depth = k.depth })
-adds_keeps E n x p F l c k e f h = record {
+-- an addition that finds the pair, or room for it, keeps it
+pub adds_keeps : (E : List Pair) (k : Tally) (o : Option ℕ) (p : Pair) (F : List Pair) (n : ℕ) → is_some o ≡ true → Adds alike E k.count p o F n → Keeps E k p F (record { base = k.base; count = n; full = k.full; depth = k.depth })
+adds_keeps E k None p F n e h = absurd (false≢true e)
+adds_keeps E k (Some x) p F n e h = record {
   base = refl;
   depth = refl;
   ways = ⊎_elim
-      (λ (a : At alike E n p x × (F ≡ E) × (l ≡ n)). inl (subst (λ (z : ℕ). Has E z p.state p.standing) (sym e) (at_has E n x p a.0), a.1, f ∙ a.2 ∙ sym e, refl))
-      (λ (a : New alike E n p × (n < length E) × (x ≡ n) × (F ≡ set E n p) × (l ≡ n + 1)).
-      inr (inl (
-        subst (λ (z : ℕ). Has E z p.state p.standing → ⊥) (sym e) (new_missing E n p a.0),
-        omega (arith, a.1),
-        a.3 ∙ ap (λ (z : ℕ). set E z p) (sym e),
-        omega (arith, a.4),
-        refl,
-      )))
+      (λ (a : At alike E k.count p x × (F ≡ E) × (n ≡ k.count)). inl (at_has E k.count x p a.0, a.1, a.2, refl))
+      (λ (a : New alike E k.count p × (k.count < length E) × (x ≡ k.count) × (F ≡ set E k.count p) × (n ≡ k.count + 1)). inr (inl (new_missing E k.count p a.0, a.1, a.3, a.4, refl)))
       h;
 }

@@ -1,11 +1,12 @@
 -- The entries' own walks.
-use Rattle.std.proofs.Common.{◌≡◌, ℕ, zero, suc, ◌+◌, ◌<◌, List, [], ◌∷◌, ◌++◌, length, get_or, sym, refl, ap, ◌∙◌, subst, ap₂, ⊎_elim, arith}
+use Rattle.std.proofs.Common.{◌≡◌, ℕ, zero, suc, ◌+◌, ◌<◌, List, [], ◌∷◌, ◌++◌, length, get_or, sym, refl, ◌∙◌, subst, ap₂, ⊎_elim, arith}
+use Rattle.std.proofs.lemmas.List.{length_push}
 use Rattle.meaning.specs.Machines.{Meaning, Among}
 use Rattle.pairs.specs.declared.pair.Pair.{Pair}
 use Rattle.meaning.specs.Walks.{Walk, last}
 use Rattle.pairs.specs.Readers.{Reader, standing_of}
 use Rattle.pairs.specs.Stages.{no_pair, state_at, standing_at, parent_at, depth_at, next_at, Comes, chain}
-use Rattle.pairs.proofs.Walks.{walk_push, last_push, length_push, standing_push}
+use Rattle.pairs.proofs.Walks.{walk_push, last_push, standing_push}
 
 -- xs is a walk of d states with the pair s, q
 pub record Leads (m : Meaning) (r : Reader) (d s q : ℕ) (xs : List ℕ) : Type 0 where
@@ -17,7 +18,7 @@ pub record Leads (m : Meaning) (r : Reader) (d s q : ℕ) (xs : List ℕ) : Type
 pub leads_step : (m : Meaning) (r : Reader) (d s q t : ℕ) (xs : List ℕ) → Leads m r d s q xs → Among t (m.steps s) → Leads m r (suc d) t (r.next q (m.letter s)) (xs ++ (t ∷ []))
 leads_step m r d s q t xs h a = record {
   walks = walk_push m xs t h.walks (rw h.ends a);
-  states = length_push xs t ∙ ap suc h.states;
+  states = omega (arith, length_push xs t, h.states);
   ends = last_push xs t;
   standing = standing_push m r xs t h.walks ∙ ap₂ (λ (q s : ℕ). r.next q (m.letter s)) h.standing h.ends;
 }

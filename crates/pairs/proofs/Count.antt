@@ -1,36 +1,12 @@
 -- Counting: how many pairs, and when they do not fit.
-use Rattle.std.proofs.Common.{◌≡◌, ℕ, zero, suc, ◌<◌, ◌≤◌, Bool, true, false, cond, eqb, ltb, List, length, sym, refl, ap, ◌∙◌, arith, ltb-true}
+use Rattle.std.proofs.Common.{◌≡◌, ℕ, suc, ◌<◌, ◌≤◌, Bool, true, false, cond, ltb, List, length, sym, refl, ◌∙◌, arith, ltb-true}
+use Rattle.logic.proofs.Tables.{no_more as fewer}
 use Rattle.meaning.specs.Machines.{Meaning}
 use Rattle.pairs.specs.declared.pair.Pair.{Pair}
 use Rattle.meaning.specs.Walks.{Walk, last}
 use Rattle.pairs.specs.Readers.{Reader, standing_of, SamePair, Pairs, Fit}
 use Rattle.pairs.specs.Stages.{state_at, standing_at, depth_at, Has, Over, Stage, chain}
 use Rattle.pairs.proofs.Chain.{Leads, leads}
-
-moved : ℕ → ℕ → ℕ → ℕ
-moved n c x = cond (eqb x n) c x
-
-moved_below : (n c x : ℕ) → x < suc n → c < suc n → (x ≡ c → ⊥) → moved n c x < n
-unfolding moved
-moved_below n c x p q d = grind arith
-
-moved_apart : (n c x y : ℕ) → (x ≡ y → ⊥) → (x ≡ c → ⊥) → (y ≡ c → ⊥) → moved n c x ≡ moved n c y → ⊥
-unfolding moved
-moved_apart n c x y d dx dy e = grind arith
-
--- numbers that differ and lie below n are no more than n
-pub pigeonhole : (n k : ℕ) (f : (i : ℕ) → i < k → ℕ) → ((i : ℕ) (l : i < k) → f i l < n) → ((i j : ℕ) (a : i < k) (b : j < k) → i < j → f i a ≡ f j b → ⊥) → k ≤ n
-pigeonhole n zero f below differ = omega arith
-pigeonhole zero (suc k) f below differ = absurd (omega (arith, below 0 (omega arith)))
-pigeonhole (suc n) (suc k) f below differ =
-    let up : (i : ℕ) → i < k → i < suc k = λ i l. omega arith in
-    let top : k < suc k = omega arith in
-    let last : (i : ℕ) (l : i < k) → f i (up i l) ≡ f k top → ⊥ = λ i l. differ i k (up i l) top l in
-    let h : k ≤ n =
-    pigeonhole n k (λ i l. moved n (f k top) (f i (up i l)))
-    (λ i l. moved_below n (f k top) (f i (up i l)) (below i (up i l)) (below k top) (last i l))
-    (λ i j a b less. moved_apart n (f k top) (f i (up i a)) (f j (up j b)) (differ i j (up i a) (up j b) less) (last i a) (last j b)) in
-    omega arith
 
 -- cases by a test, at a family over the Bool
 by_test : (F : Bool → Type 0) (b : Bool) → (b ≡ true → F true) → (b ≡ false → F false) → F b
@@ -39,17 +15,10 @@ by_test F false f g = g refl
 
 module _ (m : Meaning) (r : Reader) (P : List ℕ → Type 0) where
   -- walks whose pairs differ are no more than the pairs
-  pub no_more : (n k : ℕ) (w : ℕ → List ℕ) → ((i : ℕ) → i < k → Walk m (w i) × P (w i)) → ((i j : ℕ) → i < j → j < k → SamePair m r (w i) (w j) → ⊥) → Pairs m r P n → k ≤ n
+  no_more : (n k : ℕ) (w : ℕ → List ℕ) → ((i : ℕ) → i < k → Walk m (w i) × P (w i)) → ((i j : ℕ) → i < j → j < k → SamePair m r (w i) (w j) → ⊥) → Pairs m r P n → k ≤ n
   no_more n k w walks differ c =
-      pigeonhole n k (λ i l. (c.covers (w i) (walks i l).0 (walks i l).1).0)
-      (λ i l. (c.covers (w i) (walks i l).0 (walks i l).1).1)
-      (λ i j a b less e.
-      let x = (c.covers (w i) (walks i a).0 (walks i a).1).2 in
-      let y = (c.covers (w j) (walks j b).0 (walks j b).1).2 in
-      differ i j less b (x.0 ∙ ap (λ (z : ℕ). last (c.walk z)) e ∙ sym y.0, x.1 ∙ ap (λ (z : ℕ). standing_of m r (c.walk z)) e ∙ sym y.1))
-
-  pub one_count : (a b : ℕ) → Pairs m r P a → Pairs m r P b → a ≡ b
-  one_count a b c d = omega (arith, no_more b a c.walk c.walks c.differ d, no_more a b d.walk d.walks d.differ c)
+      fewer (λ xs. Walk m xs × P xs) (SamePair m r) (λ xs ys e. (sym e.0, sym e.1)) (λ xs ys zs d e. (d.0 ∙ e.0, d.1 ∙ e.1)) k n w walks differ
+      (record { one = c.walk; inside = c.walks; covers = λ xs h. c.covers xs h.0 h.1; differ = c.differ })
 
   module _ (rows base : ℕ) (E : List Pair) (n : ℕ) (over : Bool) (j : ℕ) (s : Stage m r rows base E n over j) where
     -- the walk of an entry

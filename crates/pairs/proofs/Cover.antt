@@ -1,11 +1,13 @@
 -- Levels: what is kept covers the walks of so many states.
-use Rattle.std.proofs.Common.{◌≡◌, ℕ, zero, suc, ◌+◌, ◌<◌, ◌≤◌, true, false, List, [], ◌∷◌, ◌++◌, length, get_or, sym, refl, ap, ◌∙◌, subst, ap₂, arith}
+use Rattle.std.proofs.Common.{◌≡◌, ℕ, zero, suc, ◌+◌, ◌<◌, ◌≤◌, false, List, [], ◌∷◌, ◌++◌, length, get_or, sym, refl, ap, ◌∙◌, subst, ap₂, arith}
+use mathlib.Core.Bool.{false≢true}
+use Rattle.std.proofs.lemmas.List.{length_push}
 use Rattle.meaning.specs.Machines.{Meaning, Among}
 use Rattle.pairs.specs.declared.pair.Pair.{Pair}
 use Rattle.meaning.specs.Walks.{Walk, last, word}
 use Rattle.pairs.specs.Readers.{Reader, standing_of, Broken, after}
 use Rattle.pairs.specs.Stages.{no_pair, state_at, next_at, bad, Has, Grows, StartsKept, StartsGood, KeptFrom, GoodFrom, Covered}
-use Rattle.pairs.proofs.Walks.{View, one, more, view, walk_some, last_push, length_push, standing_push, after_whole}
+use Rattle.pairs.proofs.Walks.{View, one, more, view, walk_some, last_push, standing_push, after_whole}
 
 pub has_grows : (E : List Pair) (n : ℕ) (F : List Pair) (k s q : ℕ) → Grows E n F k → Has E n s q → Has F k s q
 has_grows E n F k s q g h = record {
@@ -65,5 +67,4 @@ module _ (m : Meaning) (r : Reader) where
       let g = good_view E n j c starts good xs (view m xs w) l in
       let e = after_whole m r xs w in
       let f : r.says (after r (word m xs)) ≡ false = rw e g in
-      let z : true ≡ false = sym b ∙ f in
-      let o : ◌≡◌ {A = ℕ} 0 1 = cc in omega arith
+      false≢true (sym f ∙ b)

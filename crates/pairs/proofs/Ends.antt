@@ -1,62 +1,32 @@
 -- From level to level, and the three ends of a search.
-use Rattle.std.proofs.Common.{◌≡◌, ℕ, ◌+◌, ◌<◌, ◌≤◌, Bool, true, false, ◌⊎◌, List, [], ◌∷◌, ◌++◌, length, get_or, take, drop, set, sym, refl, ap, ◌∙◌, subst, inl, inr, ⊎_elim, arith}
+use Rattle.std.proofs.Common.{◌≡◌, ℕ, ◌+◌, ◌<◌, ◌≤◌, Bool, true, false, List, [], ◌∷◌, ◌++◌, length, take, drop, set, sym, refl, ap, ◌∙◌, subst, ⊎_elim, arith}
 use Rattle.meaning.specs.Machines.{Meaning, Among}
 use Rattle.pairs.specs.declared.pair.Pair.{Pair}
-use Rattle.pairs.specs.declared.level.Tally.{Tally}
 use Rattle.meaning.specs.Walks.{Walk, last}
 use Rattle.pairs.specs.Readers.{Reader, standing_of, Broken, Breach, Fit, Shorter, AnyWalk, after}
 use Rattle.pairs.specs.Verdicts.{Shows, Clears, Exceeds}
-use Rattle.pairs.specs.Stages.{no_pair, state_at, standing_at, parent_at, depth_at, next_at, bad, Has, Comes, Stage, StageOf, Goes_on, Grows, KeptFrom, GoodFrom, Covered, Breaks, LevelPart, Between, Begun, Rooted, chain}
-use Rattle.std.proofs.lemmas.List.{take_more_set, drop-set-lt, length-set}
-use Rattle.pairs.proofs.Walks.{after_whole, walk_some, length_push}
-use Rattle.pairs.proofs.Cover.{has_grows, kept_grows, good_grows, covered_more, covered_none, covered_all, all_good}
+use Rattle.pairs.specs.Stages.{Tally, state_at, standing_at, depth_at, bad, Has, Stage, StageOf, Goes_on, Grows, KeptFrom, GoodFrom, Covered, Breaks, LevelPart, Between, chain}
+use Rattle.std.proofs.lemmas.Bool.{cases_lt}
+use Rattle.std.proofs.lemmas.List.{length_push, take_more_set, drop-set-lt, length-set}
+use Rattle.pairs.proofs.Walks.{after_whole, walk_some}
+use Rattle.pairs.proofs.Cover.{has_grows, kept_grows, good_grows, covered_more, covered_all, all_good}
 use Rattle.pairs.proofs.Chain.{Leads, leads, leads_step}
 use Rattle.pairs.proofs.Count.{counted, too_many}
 
-low_or_high : (i n : ℕ) → (i < n) ⊎ (n ≤ i)
-low_or_high i n = grind arith
-
 module _ (m : Meaning) (r : Reader) (rows : ℕ) where
   depth_most : (base : ℕ) (E : List Pair) (n : ℕ) (over : Bool) (j : ℕ) → Stage m r rows base E n over j → (i : ℕ) → i < n → depth_at E i ≤ j
-  depth_most base E n over j s i l = ⊎_elim (λ (a : i < base). omega (arith, s.old i a)) (λ (b : base ≤ i). omega (arith, s.fresh i b l)) (low_or_high i base)
-
-  -- the next level begins
-  pub next_stage : (base : ℕ) (E : List Pair) (n : ℕ) (over : Bool) (j : ℕ) → Stage m r rows base E n over j → Stage m r rows n E n false (j + 1)
-  next_stage base E n over j s = record {
-    fits = s.fits;
-    begun = omega arith;
-    comes = s.comes;
-    inside = s.inside;
-    low = s.low;
-    old = λ i l. omega (arith, depth_most base E n over j s i l);
-    fresh = λ i b l. absurd (omega arith);
-    differ = s.differ;
-    overflow = λ e. absurd (let z : ◌≡◌ {A = ℕ} 0 1 = cc in omega arith);
-  }
+  depth_most base E n over j s i l = ⊎_elim (λ (a : i < base). omega (arith, s.old i a)) (λ (b : base ≤ i). omega (arith, s.fresh i b l)) (cases_lt i base)
 
   -- pairs that found no room: neither a walk nor clear
   pub refused : (base : ℕ) (E : List Pair) (n : ℕ) (over : Bool) (j room : ℕ) (before after : List ℕ) → after ≡ before → over ≡ true → Stage m r rows base E n over j → room ≡ length E → ((xs : List ℕ) → Walk m xs → length xs ≤ j → Broken m r xs → ⊥) → Exceeds m r room before after
   refused base E n over j room before after stay full s e clean = record {
     no_walk = λ h.
         let o = s.overflow full in
-        let long : j < length h.walk = ⊎_elim (λ (a : j < length h.walk). a) (λ (b : length h.walk ≤ j). absurd (clean h.walk h.shortest.breach.0 b h.shortest.breach.1)) (low_or_high j (length h.walk)) in
+        let long : j < length h.walk = ⊎_elim (λ (a : j < length h.walk). a) (λ (b : length h.walk ≤ j). absurd (clean h.walk h.shortest.breach.0 b h.shortest.breach.1)) (cases_lt j (length h.walk)) in
         too_many m r (Shorter (length h.walk)) rows base E n over j s
         (λ i xs l x. omega (arith, x.states, depth_most base E n over j s i l)) o (omega (arith, o.short)) (rw e at h.fit);
     no_clear = λ h. too_many m r AnyWalk rows base E n over j s (λ i xs l x. tt) (s.overflow full) tt (rw e at h.fit);
     stays = stay;
-  }
-
-  pub begin_clean : (E : List Pair) → ((s : ℕ) → Among s m.starts → bad m r s 0 ≡ false) → (xs : List ℕ) → Walk m xs → length xs ≤ 1 → Broken m r xs → ⊥
-  begin_clean E good = all_good m r E 0 0 (covered_none m r E 0) good (λ i l. absurd (omega arith))
-
-  pub begin_between : (E F : List Pair) (k : Tally) → Begun m r rows E F k → k.full ≡ false → Between m r F 0 k.count 1
-  begin_between E F k b f = record {
-    starts_kept = b.kept f;
-    starts_good = b.good;
-    kept = λ i l. absurd (omega arith);
-    good = λ i l. absurd (omega arith);
-    covered = covered_more m r F 0 0 F k.count (covered_none m r F 0) (b.kept f) (λ i l. absurd (omega arith)) (record { more = omega arith; same_length = refl; stays = λ i l. refl });
-    clean = begin_clean F b.good;
   }
 
   -- all that is kept before the level was left
@@ -64,7 +34,7 @@ module _ (m : Meaning) (r : Reader) (rows : ℕ) where
   level_good E k low n j F k' e f b p i l = ⊎_elim
       (λ (a : i < low). good_grows m r E k.count F k'.count i p.goes.grows (omega arith) (b.good i a))
       (λ (a : low ≤ i). p.good i a (omega arith))
-      (low_or_high i low)
+      (cases_lt i low)
 
   level_covered : (E : List Pair) (k : Tally) (low n j : ℕ) (F : List Pair) (k' : Tally) → n ≡ k.count → Between m r E low n j → Goes_on m r rows E k F k' → Covered m r F n j
   level_covered E k low n j F k' e b g xs w l =
@@ -80,7 +50,7 @@ module _ (m : Meaning) (r : Reader) (rows : ℕ) where
       let kept : (i : ℕ) → i < n → KeptFrom m r F k'.count i = λ i l. ⊎_elim
       (λ (a : i < low). kept_grows m r E n F k'.count i g l (b.kept i a))
       (λ (a : low ≤ i). p.kept z i a (omega arith))
-      (low_or_high i low) in
+      (cases_lt i low) in
       record {
         starts_kept = starts;
         starts_good = b.starts_good;
@@ -110,15 +80,6 @@ module _ (m : Meaning) (r : Reader) (rows : ℕ) where
       let y = leads_step m r d s q t xs h a in
       (y.walks, rw (after_whole m r (xs ++ (t ∷ [])) y.walks, y.standing, y.ends) b)
 
-  rooted_from : (E : List Pair) (n : ℕ) → ((i : ℕ) → i < n → Comes m r E i (get_or E i no_pair)) → Rooted E n
-  rooted_from E n comes i l = ⊎_elim
-      (λ (a : Among (state_at E i) m.starts × (standing_at E i ≡ 0) × (depth_at E i ≡ 1)). inl a.2)
-      (λ (b : (parent_at E i < i) × Among (state_at E i) (m.steps (state_at E (parent_at E i))) × (standing_at E i ≡ next_at m r E (parent_at E i)) × (depth_at E i ≡ depth_at E (parent_at E i) + 1)). inr (b.0, b.3))
-      (comes i l)
-
-  pub rooted : (E : List Pair) (k : Tally) (i : ℕ) → StageOf m r rows E k → i < k.count → Rooted E (i + 1)
-  rooted E k i s l x h = rooted_from E k.count s.comes x (omega arith)
-
   -- a start that is itself a breach
   pub start_shown : (t room : ℕ) (w : List ℕ) → 0 < length w → Among t m.starts → bad m r t 0 ≡ true → Shows m r room w (set w 0 t) 1
   start_shown t room w l a b =
@@ -131,14 +92,14 @@ module _ (m : Meaning) (r : Reader) (rows : ℕ) where
       }
 
   -- a step behind entry i ends a breach
-  pub walk_shown : (E : List Pair) (k k0 : Tally) (i t : ℕ) (F : List Pair) (room res : ℕ) (w w' : List ℕ) → StageOf m r rows E k → Between m r E k.base k.count k.depth → k0.count ≡ k.count → k.base ≤ i → i < k.count → Breaks m r rows E k0 i t F → length E ≡ room → res ≡ depth_at F i + 1 → depth_at F i < length w' → take res w' ≡ chain F (depth_at F i) i ++ (t ∷ []) → drop res w' ≡ drop res w → Shows m r room w w' res
-  walk_shown E k k0 i t F room res w w' s b ec low high h er es fits written rest =
+  pub walk_shown : (E : List Pair) (k k0 : Tally) (i t : ℕ) (F : List Pair) (k' : Tally) (room res : ℕ) (w w' : List ℕ) → StageOf m r rows E k → Between m r E k.base k.count k.depth → k0.count ≡ k.count → k.base ≤ i → i < k.count → Breaks m r rows E k0 i t F k' → length E ≡ room → res ≡ depth_at F i + 1 → depth_at F i < length w' → take res w' ≡ chain F (depth_at F i) i ++ (t ∷ []) → drop res w' ≡ drop res w → Shows m r room w w' res
+  walk_shown E k k0 i t F k' room res w w' s b ec low high h er es fits written rest =
       let same = h.goes.grows.stays i (omega arith) in
       let d = depth_at F i in
       let xs = chain F d i in
       let ed : d ≡ k.depth = ap (λ (p : Pair). p.depth) same ∙ s.fresh i low high in
       let x = subst (λ (p : Pair). Among t (m.steps p.state) × (bad m r t (r.next p.standing (m.letter p.state)) ≡ true)) (sym same) (h.step, h.breach) in
-      let l = leads m r F h.kept.count h.goes.stage.comes d i (omega (arith, h.goes.grows.more)) refl in
+      let l = leads m r F k'.count h.goes.stage.comes d i (omega (arith, h.goes.grows.more)) refl in
       let br = shown xs d (state_at F i) (standing_at F i) t l x.0 x.1 in
       record {
         within = omega arith;
@@ -147,16 +108,13 @@ module _ (m : Meaning) (r : Reader) (rows : ℕ) where
           least = λ ys y. ⊎_elim
               (λ (a : length ys < length (xs ++ (t ∷ []))). absurd (b.clean ys y.0 (omega (arith, length_push xs t, l.states)) y.1))
               (λ (a : length (xs ++ (t ∷ [])) ≤ length ys). a)
-              (low_or_high (length ys) (length (xs ++ (t ∷ []))));
+              (cases_lt (length ys) (length (xs ++ (t ∷ []))));
         });
         fit = level_fit k.base E k.count k.full k.depth room res s b.covered er (omega arith);
         rest = rest;
       }
 
-  -- the invariant of the search, before the first level and after one
-  pub begin_holds : (E F : List Pair) (k : Tally) → Begun m r rows E F k → k.full ≡ false → Between m r F k.base k.count k.depth
-  begin_holds E F k b f = rw (b.base, b.depth) (begin_between E F k b f)
-
+  -- the invariant of the exploration, after one more level
   pub level_again : (E : List Pair) (k k0 : Tally) (F : List Pair) (k' : Tally) → k0.count ≡ k.count → k0.base ≡ k.count → k0.depth ≡ k.depth + 1 → Between m r E k.base k.count k.depth → LevelPart m r rows E k0 k.base k0.base F k' → k'.full ≡ false → Between m r F k'.base k'.count k'.depth
   level_again E k k0 F k' ec eb ed b p z =
       let x = level_between E k0 k.base k.count k.depth F k' (sym ec) (sym eb) b p z in

@@ -1,21 +1,12 @@
 -- Keeping one pair.
-use Rattle.std.proofs.Common.{◌≡◌, ℕ, ◌+◌, ◌<◌, ◌≤◌, Bool, true, false, ◌≢◌, ◌⊎◌, List, length, get_or, set, sym, refl, ap, ◌∙◌, subst, inl, inr, ⊎_elim, arith, below_more}
+use Rattle.std.proofs.Common.{◌≡◌, ℕ, ◌+◌, ◌<◌, ◌≤◌, Bool, true, false, ◌≢◌, List, length, get_or, set, sym, refl, ap, ◌∙◌, subst, inl, inr, ⊎_elim, arith, below_more}
+use mathlib.Core.Bool.{false≢true}
 use Rattle.std.proofs.lemmas.List.{get_or-set_same, get_or-set_other, length-set}
 use Rattle.meaning.specs.Machines.{Meaning, Among}
 use Rattle.pairs.specs.declared.pair.Pair.{Pair}
-use Rattle.pairs.specs.declared.level.Tally.{Tally}
 use Rattle.pairs.specs.Readers.{Reader}
-use Rattle.pairs.specs.Stages.{no_pair, state_at, standing_at, depth_at, next_at, Has, Comes, Stage, StageOf, Keeps, Goes_on, Grows}
+use Rattle.pairs.specs.Stages.{Tally, no_pair, state_at, standing_at, depth_at, next_at, Has, Comes, Stage, StageOf, Keeps, Goes_on, Grows}
 use Rattle.pairs.proofs.Chain.{comes_leads}
-
-below_split : (a i : ℕ) → a < i + 1 → (a < i) ⊎ (a ≡ i)
-below_split a i l = grind arith
-
-pub has_more : (E : List Pair) (i s q : ℕ) → (Has E i s q → ⊥) → (state_at E i ≡ s → standing_at E i ≡ q → ⊥) → Has E (i + 1) s q → ⊥
-has_more E i s q old here h = ⊎_elim
-    (λ (l : h.at < i). old (record { at = h.at; below = l; state = h.state; standing = h.standing }))
-    (λ (e : h.at ≡ i). here (ap (state_at E) (sym e) ∙ h.state) (ap (standing_at E) (sym e) ∙ h.standing))
-    (below_split h.at i h.below)
 
 -- an area with one more entry
 module _ (E : List Pair) (n : ℕ) (p : Pair) (room : n < length E) where
@@ -82,15 +73,6 @@ module _ (m : Meaning) (r : Reader) (rows base : ℕ) (E : List Pair) (n : ℕ) 
         record { full = full; walk = x.0; walks = x.1.walks; short = omega (arith, x.1.states, depth); missing = λ h. new (record { at = h.at; below = h.below; state = h.state ∙ x.1.ends; standing = h.standing ∙ x.1.standing }) };
   }
 
-stage_as : (m : Meaning) (r : Reader) (rows base base' : ℕ) (E F : List Pair) (n n' : ℕ) (f f' : Bool) (j j' : ℕ) → base' ≡ base → F ≡ E → n' ≡ n → f' ≡ f → j' ≡ j → Stage m r rows base E n f j → Stage m r rows base' F n' f' j'
-stage_as m r rows base base' E F n n' f f' j j' a b c d e s = rw (a, b, c, d, e) s
-
-has_as : (E F : List Pair) (n n' s q : ℕ) → F ≡ E → n' ≡ n → Has E n s q → Has F n' s q
-has_as E F n n' s q a b h = rw (a, b) h
-
-grows_as : (E : List Pair) (n : ℕ) (F F' : List Pair) (k k' : ℕ) → F' ≡ F → k' ≡ k → Grows E n F k → Grows E n F' k'
-grows_as E n F F' k k' a b g = rw (a, b) g
-
 pub grows_none : (E : List Pair) (n : ℕ) → Grows E n E n
 grows_none E n = record { more = omega arith; same_length = refl; stays = λ i l. refl }
 
@@ -101,9 +83,6 @@ grows_join E n F k G l a b = record {
   stays = λ i h. b.stays i (omega (arith, a.more)) ∙ a.stays i h;
 }
 
-true_false : (b : Bool) → b ≡ true → b ≡ false → ⊥
-true_false b e f = let z : ◌≡◌ {A = ℕ} 0 1 = cc in omega arith
-
 -- a pair that was kept, or found no room
 pub record Put (m : Meaning) (r : Reader) (rows : ℕ) (E : List Pair) (k : Tally) (p : Pair) (F : List Pair) (k' : Tally) : Type 0 where
   pub goes : Goes_on m r rows E k F k'
@@ -113,36 +92,33 @@ pub keeps_put : (m : Meaning) (r : Reader) (rows : ℕ) (E : List Pair) (k : Tal
 keeps_put m r rows E k p F k' s c inside depth h = ⊎_elim
     (λ (a : Has E k.count p.state p.standing × (F ≡ E) × (k'.count ≡ k.count) × (k'.full ≡ k.full)). record {
       goes = record {
-        stage = stage_as m r rows k.base k'.base E F k.count k'.count k.full k'.full k.depth k'.depth h.base a.1 a.2 a.3 h.depth s;
+        stage = rw (h.base, a.1, a.2, a.3, h.depth) s;
         base = h.base;
         depth = h.depth;
-        grows = grows_as E k.count E F k.count k'.count a.1 a.2 (grows_none E k.count);
+        grows = rw (a.1, a.2) (grows_none E k.count);
         sticky = λ e. sym a.3 ∙ e;
       };
-      has = λ e. has_as E F k.count k'.count p.state p.standing a.1 a.2 a.0;
+      has = λ e. rw (a.1, a.2) a.0;
     })
     (⊎_elim
     (λ (a : (Has E k.count p.state p.standing → ⊥) × (k.count < length E) × (F ≡ set E k.count p) × (k'.count ≡ k.count + 1) × (k'.full ≡ k.full)). record {
       goes = record {
-        stage = stage_as m r rows k.base k'.base (set E k.count p) F (k.count + 1) k'.count k.full k'.full k.depth k'.depth h.base a.2 a.3 a.4 h.depth
-            (put_stage m r rows k.base E k.count k.full k.depth s p c inside depth a.1 a.0);
+        stage = rw (h.base, a.2, a.3, a.4, h.depth) (put_stage m r rows k.base E k.count k.full k.depth s p c inside depth a.1 a.0);
         base = h.base;
         depth = h.depth;
-        grows = grows_as E k.count (set E k.count p) F (k.count + 1) k'.count a.2 a.3 (put_grows E k.count p a.1);
+        grows = rw (a.2, a.3) (put_grows E k.count p a.1);
         sticky = λ e. sym a.4 ∙ e;
       };
-      has = λ e. has_as (set E k.count p) F (k.count + 1) k'.count p.state p.standing a.2 a.3
-          (record { at = k.count; below = omega arith; state = ap (λ (z : Pair). z.state) (put_new E k.count p a.1); standing = ap (λ (z : Pair). z.standing) (put_new E k.count p a.1) });
+      has = λ e. rw (a.2, a.3) (record { at = k.count; below = omega arith; state = ap (λ (z : Pair). z.state) (put_new E k.count p a.1); standing = ap (λ (z : Pair). z.standing) (put_new E k.count p a.1) });
     })
     (λ (a : (Has E k.count p.state p.standing → ⊥) × (k.count ≡ length E) × (F ≡ E) × (k'.count ≡ k.count) × (k'.full ≡ true)). record {
       goes = record {
-        stage = stage_as m r rows k.base k'.base E F k.count k'.count true k'.full k.depth k'.depth h.base a.2 a.3 a.4 h.depth
-            (full_stage m r rows k.base E k.count k.full k.depth s p c inside depth a.1 a.0);
+        stage = rw (h.base, a.2, a.3, a.4, h.depth) (full_stage m r rows k.base E k.count k.full k.depth s p c inside depth a.1 a.0);
         base = h.base;
         depth = h.depth;
-        grows = grows_as E k.count E F k.count k'.count a.2 a.3 (grows_none E k.count);
-        sticky = λ e. absurd (true_false k'.full a.4 e);
+        grows = rw (a.2, a.3) (grows_none E k.count);
+        sticky = λ e. absurd (false≢true (sym e ∙ a.4));
       };
-      has = λ e. absurd (true_false k'.full a.4 e);
+      has = λ e. absurd (false≢true (sym e ∙ a.4));
     }))
     h.ways

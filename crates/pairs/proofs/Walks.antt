@@ -1,5 +1,5 @@
 -- A walk by its last state.
-use Rattle.std.proofs.Common.{◌≡◌, ℕ, suc, ◌<◌, List, [], ◌∷◌, ◌++◌, length, sym, refl, ap, ◌∙◌, append_assoc, arith}
+use Rattle.std.proofs.Common.{◌≡◌, ℕ, ◌<◌, List, [], ◌∷◌, ◌++◌, length, sym, refl, ap, ◌∙◌, append_assoc, arith}
 use mathlib.Core.List.{foldl-append}
 use Rattle.std.proofs.lemmas.List.{map-append}
 use Rattle.meaning.specs.Machines.{Meaning, Among}
@@ -21,10 +21,6 @@ front_from_push s (u ∷ us) t = ap (λ (l : List ℕ). s ∷ l) (front_from_pus
 pub front_push : (xs : List ℕ) (t : ℕ) → front (xs ++ (t ∷ [])) ≡ xs
 front_push [] t = refl
 front_push (s ∷ ts) t = front_from_push s ts t
-
-pub length_push : (xs : List ℕ) (t : ℕ) → length (xs ++ (t ∷ [])) ≡ suc (length xs)
-length_push [] t = refl
-length_push (s ∷ ts) t = ap suc (length_push ts t)
 
 front_last : (s : ℕ) (ts : List ℕ) → front_from s ts ++ (last_from s ts ∷ []) ≡ s ∷ ts
 front_last s [] = refl

@@ -1,14 +1,27 @@
 -- The pairs kept so far, and how far the exploration of walks has come. Assumes nothing.
 use Rattle.std.specs.Prelude.{◌≡◌, ℕ, zero, suc, ◌+◌, ◌<◌, ◌≤◌, Bool, true, false, ◌⊎◌, List, [], ◌∷◌, ◌++◌, length, get_or, ◌≢◌, slice_index, slice_index_or, slice_set}
+use Rattle.std.specs.declared.ops.ControlFlow.{ControlFlow}
+use Rattle.std.specs.declared.ops.ControlFlow.TheVariants.{Continue, Break}
 use Rattle.meaning.specs.Machines.{Meaning, Among}
 use Rattle.meaning.specs.Walks.{Walk, last, word}
 use Rattle.pairs.specs.Readers.{Reader, standing_of, after}
 use Rattle.pairs.specs.declared.pair.Pair.{Pair}
-use Rattle.pairs.specs.declared.level.Tally.{Tally}
-use Rattle.pairs.specs.declared.level.Tried.{Tried}
-use Rattle.pairs.specs.declared.level.Tried.TheVariants.{Broken, Done}
-use Rattle.pairs.specs.declared.level.Found.{Found}
-use Rattle.pairs.specs.declared.level.Found.TheVariants.{Behind, Through}
+use Rattle.pairs.specs.declared.level.Behind.{Behind}
+
+-- the level that is being filled: its first entry, how many pairs are kept in all, whether one found no room, and how many states its walks have
+pub record Tally : Type 0 where
+  pub base : ℕ
+  pub count : ℕ
+  pub full : Bool
+  pub depth : ℕ
+
+-- what trying the starts came to: a start that is itself a breach, or none
+abbrev pub Tried : Type 0
+Tried = ControlFlow ℕ (Unit {0})
+
+-- what leaving entries came to: an entry with a state behind it that ends a breach, or none
+abbrev pub Found : Type 0
+Found = ControlFlow Behind (Unit {0})
 
 abbrev pub no_pair : Pair
 no_pair = record { state = 0; standing = 0; parent = 0; depth = 0 }
@@ -125,11 +138,10 @@ pub record Goes_on (m : Meaning) (r : Reader) (rows : ℕ) (E : List Pair) (k : 
   pub sticky : k'.full ≡ false → k.full ≡ false
 
 -- a step to t from entry i ends a breach
-pub record Breaks (m : Meaning) (r : Reader) (rows : ℕ) (E : List Pair) (k : Tally) (i t : ℕ) (F : List Pair) : Type 0 where
+pub record Breaks (m : Meaning) (r : Reader) (rows : ℕ) (E : List Pair) (k : Tally) (i t : ℕ) (F : List Pair) (k' : Tally) : Type 0 where
   pub step : Among t (m.steps (state_at E i))
   pub breach : bad m r t (next_at m r E i) ≡ true
-  pub kept : Tally
-  pub goes : Goes_on m r rows E k F kept
+  pub goes : Goes_on m r rows E k F k'
 
 -- what leaving entry i does
 pub record Left (m : Meaning) (r : Reader) (rows : ℕ) (E : List Pair) (k : Tally) (i : ℕ) (F : List Pair) (k' : Tally) : Type 0 where
@@ -137,9 +149,9 @@ pub record Left (m : Meaning) (r : Reader) (rows : ℕ) (E : List Pair) (k : Tal
   pub kept : k'.full ≡ false → KeptFrom m r F k'.count i
   pub good : GoodFrom m r F i
 
-abbrev pub Leaves : Meaning → Reader → ℕ → List Pair → Tally → ℕ → List Pair → Tried → Type 0
-Leaves m r rows E k i F (Broken t) = Breaks m r rows E k i t F
-Leaves m r rows E k i F (Done k') = Left m r rows E k i F k'
+abbrev pub Leaves : Meaning → Reader → ℕ → List Pair → Tally → ℕ → List Pair → Tally → Found → Type 0
+Leaves m r rows E k i F k' (Break b) = (b.entry ≡ i) × Breaks m r rows E k i b.state F k'
+Leaves m r rows E k i F k' (Continue _) = Left m r rows E k i F k'
 
 -- the entries from low on, below x, were left
 pub record LevelPart (m : Meaning) (r : Reader) (rows : ℕ) (E : List Pair) (k : Tally) (low x : ℕ) (F : List Pair) (k' : Tally) : Type 0 where
@@ -147,9 +159,9 @@ pub record LevelPart (m : Meaning) (r : Reader) (rows : ℕ) (E : List Pair) (k 
   pub kept : k'.full ≡ false → (i : ℕ) → low ≤ i → i < x → KeptFrom m r F k'.count i
   pub good : (i : ℕ) → low ≤ i → i < x → GoodFrom m r F i
 
-abbrev pub Levels : Meaning → Reader → ℕ → List Pair → Tally → ℕ → List Pair → Found → Type 0
-Levels m r rows E k low F (Behind i t) = (low ≤ i) × (i < k.base) × Breaks m r rows E k i t F
-Levels m r rows E k low F (Through k') = LevelPart m r rows E k low k.base F k'
+abbrev pub Levels : Meaning → Reader → ℕ → List Pair → Tally → ℕ → List Pair → Tally → Found → Type 0
+Levels m r rows E k low F k' (Break b) = (low ≤ b.entry) × (b.entry < k.base) × Breaks m r rows E k b.entry b.state F k'
+Levels m r rows E k low F k' (Continue _) = LevelPart m r rows E k low k.base F k'
 
 -- what the starts do
 pub record Begun (m : Meaning) (r : Reader) (rows : ℕ) (E : List Pair) (F : List Pair) (k : Tally) : Type 0 where
@@ -160,9 +172,9 @@ pub record Begun (m : Meaning) (r : Reader) (rows : ℕ) (E : List Pair) (F : Li
   pub kept : k.full ≡ false → StartsKept m F k.count
   pub good : StartsGood m r
 
-abbrev pub Begins : Meaning → Reader → ℕ → List Pair → List Pair → Tried → Type 0
-Begins m r rows E F (Broken s) = Among s m.starts × (bad m r s 0 ≡ true)
-Begins m r rows E F (Done k) = Begun m r rows E F k
+abbrev pub Begins : Meaning → Reader → ℕ → List Pair → List Pair → Tally → Tried → Type 0
+Begins m r rows E F k (Break s) = Among s m.starts × (bad m r s 0 ≡ true)
+Begins m r rows E F k (Continue _) = Begun m r rows E F k
 
 -- each of the first n entries has depth 1, or stands behind its parent
 abbrev pub Rooted : List Pair → ℕ → Type 0

@@ -1,24 +1,15 @@
-// How far the exploration of walks has come, level by level: walks of one state, of two states, and so on.
+// How trying the starts, and leaving entries, ends: with a breach, or with none.
+use std::ops::ControlFlow;
 
-// The level that is being filled: its first entry, how many pairs are kept in all, whether one found no room, and how many states its walks have.
-#[derive(Clone, Copy)]
-pub struct Tally {
-    pub base: usize,
-    pub count: usize,
-    pub full: bool,
-    pub depth: usize,
+// A step that ends a breach: the entry that it leaves, and the state that it leads to.
+#[derive(Clone, Copy, Debug, PartialEq, Eq)]
+pub struct Behind {
+    pub entry: usize,
+    pub state: usize,
 }
 
-// What trying states behind an entry, or the starts, came to: a state that ends a breach, or none.
-#[derive(Clone, Copy)]
-pub enum Tried {
-    Broken(usize),
-    Done(Tally),
-}
+// What trying the starts came to: it breaks with a start that is itself a breach.
+pub type Tried = ControlFlow<usize>;
 
-// What leaving a level came to: an entry with a state behind it that ends a breach, or none.
-#[derive(Clone, Copy)]
-pub enum Found {
-    Behind(usize, usize),
-    Through(Tally),
-}
+// What leaving entries came to: it breaks with a step that ends a breach.
+pub type Found = ControlFlow<Behind>;

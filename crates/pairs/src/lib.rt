@@ -1,5 +1,5 @@
 // The pairs of walks that are kept while a breach is looked for, and the argument that looking by levels is exact: definitions and laws, hardly any running code.
-// Finding breaches (`breaches`) stands on it.
+// The theory of charts (`charting`) and finding breaches (`breaches`) stand on it.
 #![tactic(auto)]
 
 pub mod level;

@@ -6,7 +6,7 @@ use once::Item;
 
 // The pair of a walk: its last state, and the standing (state of the chart's automaton) after the letters before that state.
 // Beside it the number of the entry that the walk came through, and its number of states.
-#[derive(Clone, Copy)]
+#[derive(Clone, Copy, Debug, PartialEq, Eq)]
 pub struct Pair {
     pub state: usize,
     pub standing: u16,

@@ -1,78 +1,27 @@
-use Rattle.std.proofs.Common.{◌≡◌, false, List, length, Err, sym, refl, ap, ◌∙◌, subst, arith, rules}
-use Rattle.meaning.specs.declared.refusals.SearchingFault.TheVariants.{Blank, NoStart, ManyStates, ShortWalkArea}
-use Rattle.pairs.specs.declared.pair.Pair.{Pair}
-use Rattle.pairs.specs.Verdicts.{Answers}
-use Rattle.charts.specs.Watch.{blank}
-use Rattle.breaches.specs.Charts.{reader_of, standings_of}
-use Rattle.breaches.specs.Searched.{SearchedAsRead}
-use Rattle.breaches.proofs.Ending.{blank_none, filled_some, searchable, no_starts, gone_by, searched, for_each, answered, not_early, within}
+use Rattle.std.proofs.Common.{length, refl, ap, ◌∙◌, arith}
+use Rattle.std.proofs.lemmas.List.{nil_from_length}
+use Rattle.breaches.proofs.Ending.{searchable, gone_by, searched, told, not_early, within}
 use Rattle.breaches.proofs.find.find_breach.Goals as goal
 
-pub returns-then-is_blank : goal.returns-then-is_blank
-returns-then-is_blank g c =
-    let d = c.args.chart.now in
-    let m = g.M.Machine.meaning c.args.machine.now in
-    let w = c.args.walk.now in
-    let p = length c.args.pairs.now in
-    let is : SearchedAsRead d m p w (Err Blank) w = (blank_none d.state (standings_of d) d.few (sym c.is_blank.ensures ∙ c.if-is_blank.true), refl) in
-    record { answers = for_each d m p w w (Err Blank) is; led = answered d m p w w (Err Blank) is; reads = is; within = tt; early = λ e. refl }
-
 pub returns-then-start_count-eq0 : goal.returns-then-start_count-eq0
-returns-then-start_count-eq0 g c =
-    let d = c.args.chart.now in
-    let m = g.M.Machine.meaning c.args.machine.now in
-    let w = c.args.walk.now in
-    let p = length c.args.pairs.now in
-    let filled : blank d.state ≡ false = sym c.is_blank.ensures ∙ c.if-is_blank.false in
-    let is : SearchedAsRead d m p w (Err NoStart) w = gone_by d m p w (Err NoStart) w filled
-    (λ f reads. (no_starts m.starts (omega (arith, c.start_count.ensures, c.if-start_count-eq0.true)), refl)) in
-    record { answers = for_each d m p w w (Err NoStart) is; led = answered d m p w w (Err NoStart) is; reads = is; within = tt; early = λ e. refl }
+returns-then-start_count-eq0 g c = told _ _ _ _ _ _ _
+    (gone_by _ _ _ _ _ _ _ c.is_blank.ensures c.if-is_blank.false (λ f reads. (nil_from_length _ (omega (arith, c.start_count.ensures, c.if-start_count-eq0.true)), refl)))
+    tt (λ e. refl)
 
 pub returns-then-count-gt65536 : goal.returns-then-count-gt65536
-returns-then-count-gt65536 g c =
-    let d = c.args.chart.now in
-    let m = g.M.Machine.meaning c.args.machine.now in
-    let w = c.args.walk.now in
-    let p = length c.args.pairs.now in
-    let filled : blank d.state ≡ false = sym c.is_blank.ensures ∙ c.if-is_blank.false in
-    let is : SearchedAsRead d m p w (Err ManyStates) w = gone_by d m p w (Err ManyStates) w filled
-    (λ f reads. ((λ e. c.if-start_count-eq0.false (c.start_count.ensures ∙ ap length e)), omega arith, refl)) in
-    record { answers = for_each d m p w w (Err ManyStates) is; led = answered d m p w w (Err ManyStates) is; reads = is; within = tt; early = λ e. refl }
+returns-then-count-gt65536 g c = told _ _ _ _ _ _ _
+    (gone_by _ _ _ _ _ _ _ c.is_blank.ensures c.if-is_blank.false (λ f reads. ((λ e. c.if-start_count-eq0.false (c.start_count.ensures ∙ ap length e)), omega arith, refl)))
+    tt (λ e. refl)
 
 pub returns-then-walk-pairs : goal.returns-then-walk-pairs
-returns-then-walk-pairs g c =
-    let d = c.args.chart.now in
-    let m = g.M.Machine.meaning c.args.machine.now in
-    let w = c.args.walk.now in
-    let p = length c.args.pairs.now in
-    let filled : blank d.state ≡ false = sym c.is_blank.ensures ∙ c.if-is_blank.false in
-    let is : SearchedAsRead d m p w (Err ShortWalkArea) w = gone_by d m p w (Err ShortWalkArea) w filled
-    (λ f reads. ((λ e. c.if-start_count-eq0.false (c.start_count.ensures ∙ ap length e)), omega arith, omega arith, refl)) in
-    record { answers = for_each d m p w w (Err ShortWalkArea) is; led = answered d m p w w (Err ShortWalkArea) is; reads = is; within = tt; early = λ e. refl }
+returns-then-walk-pairs g c = told _ _ _ _ _ _ _
+    (gone_by _ _ _ _ _ _ _ c.is_blank.ensures c.if-is_blank.false (λ f reads. ((λ e. c.if-start_count-eq0.false (c.start_count.ensures ∙ ap length e)), omega arith, omega arith, refl)))
+    tt (λ e. refl)
 
 pub returns : goal.returns
 returns g c =
-    let d = c.args.chart.now in
     let m = g.M.Machine.meaning c.args.machine.now in
-    let w = c.args.walk.now in
-    let w' = c.run.new.walk in
-    let p = length c.args.pairs.now in
-    let x = c.run.result in
-    let filled : blank d.state ≡ false = sym c.is_blank.ensures ∙ c.if-is_blank.false in
-    let h = subst (λ (ps : List Pair). Answers m (reader_of d) (length ps) w w' x) c.new-list.ensures.area c.run.ensures in
-    let s = searchable m p (length w) (λ e. omega arith) (omega arith) (omega arith) in
-    let is = searched d m (g.M.Machine.lawful c.args.machine.now) p w w' x filled s c.run.auto.walk h in
-    record {
-      answers = for_each d m p w w' x is;
-      led = answered d m p w w' x is;
-      reads = is;
-      within = within m (reader_of d) p w w' x h;
-      early = λ e. absurd (not_early m (reader_of d) p w w' x h e);
-    }
-
-pub run-requires : goal.run-requires
-run-requires g c = record {
-  filled = filled_some c.args.chart.now.state (standings_of c.args.chart.now) c.args.chart.now.enough (sym c.is_blank.ensures ∙ c.if-is_blank.false);
-  longer = search rules;
-  empty = search rules;
-}
+    let h = rw c.new.ensures.area at c.run.ensures in
+    told _ _ _ _ _ _ _
+    (searched _ m (g.M.Machine.lawful c.args.machine.now) _ _ _ _ _ c.is_blank.ensures c.if-is_blank.false (searchable m _ _ (λ e. omega arith) (omega arith) (omega arith)) c.run.auto.walk h)
+    (within _ _ _ _ _ _ h) (λ e. absurd (not_early _ _ _ _ _ _ h e))
