@@ -1,5 +1,5 @@
 -- A closed list of labels has them all; a full one with another has too many. Assumes nothing.
-use Rattle.std.proofs.Common.{◌≡◌, ℕ, suc, ◌+◌, ◌*◌, ◌<◌, ◌≤◌, Bool, false, ◌⊎◌, List, [], ◌∷◌, length, get_or, sym, refl, ap, ◌∙◌, inl, inr, ⊎_elim, arith}
+use Rattle.std.proofs.Common.{◌≡◌, ℕ, suc, ◌+◌, ◌*◌, ◌<◌, ◌≤◌, Bool, false, ◌⊎◌, List, [], ◌∷◌, length, get_or, Some, None, Option, MatchOption, sym, refl, ap, ◌∙◌, inl, inr, ⊎_elim, arith}
 use Rattle.std.proofs.lemmas.Bool.{cases_lt}
 use Rattle.logic.specs.Formula.{Formula, Letters}
 use Rattle.logic.specs.Labels.{label}
@@ -9,7 +9,8 @@ use Rattle.logic.specs.Standings.{SameLabel}
 use Rattle.logic.proofs.Sat.{sat_nil}
 use Rattle.logic.proofs.Masks.{masks_differ}
 use Rattle.once.specs.Once.{Apart}
-use Rattle.charting.specs.Labels.{Words, Rows, Full, Labelled}
+use Rattle.charting.specs.Worklists.{Complete, Exceeds}
+use Rattle.charting.specs.Labels.{Labels, at_front, Words, Rows, Full, Labelled}
 
 pub mask_empty : (ks : List Formula) → mask (label ks []) ≡ 0
 mask_empty [] = refl
@@ -100,9 +101,13 @@ too_many ks ls n apart words full =
           (λ h. apart.differ i j 0 less h (p ∙ ap mask e ∙ sym ((is j (omega arith)).1.0 h)))
           (λ h.
           let q : word_at P (n + 1) at j ≡ full.word = (is j (omega arith)).1.1 (omega arith) in
-          full.new i (omega arith) (p ∙ ap mask e ∙ ap (λ w. mask (label ks w)) q))
+          full.new i (omega arith) (p ∙ ap mask e ∙ ap (λ w. mask (label ks w)) q ∙ sym full.reached))
           (cases_lt j n);
     }
 
-pub no_words : (ks : List Formula) (ls : List ℕ) (n : ℕ) → n ≡ 0 → Words ks ls n
-no_words ks ls n e = record { at = λ k l. absurd (omega arith) }
+-- a closed list of labels, or too many of them
+pub labels_told : (ks : List Formula) (room : ℕ) (r : Option ℕ) (ls tb : List ℕ)
+    → MatchOption r (Exceeds (λ x y. x ≡ y) 0 (Labels ks) room) (λ n. Complete (λ x y. x ≡ y) 0 (Labels ks) at_front ls n tb)
+    → MatchOption r (More room Letters (SameLabel ks)) (λ n. Labelled ks ls n tb)
+labels_told ks room None ls tb h = too_many ks h.sets room h.apart h.walks h.more
+labels_told ks room (Some n) ls tb h = labelled ks ls tb n h.some h.empty h.rows h.apart h.walks h.fits
