@@ -1,6 +1,6 @@
 // All standings, by a worklist over the table of labels. A standing is the set of the labels that would complete a breach;
 // its record has a bit for each label number, in eight words of 64 bits.
-ghost use Rattle.std.specs.Prelude.{◌≡◌, ◌*◌, ◌<◌, ◌≤◌, false, [], ◌∷◌, length, MatchOption, slice_index, slice_index_or};
+ghost use Rattle.std.specs.Prelude.{◌≡◌, ℕ, ◌*◌, ◌<◌, ◌≤◌, Bool, [], ◌∷◌, length, MatchOption, slice_index};
 ghost use Rattle.logic.specs.Masks.{mask};
 ghost use Rattle.logic.specs.Formula.{on};
 ghost use Rattle.charting.specs.Sets.{bit_of, bits, Packs, upto};
@@ -18,25 +18,27 @@ pub(crate) fn has_label(standing: &[u64; 8], i: usize) -> bool
     (standing[i / 64] >> (i % 64)) % 2 == 1
 }
 
-// Word w of the standing that the flags say.
-fn pack_word(flags: &[bool; 512], w: usize) -> u64
-    requires { w < 8 }
-    ensures { result ≡ mask (bits (λ i. slice_index_or flags.now i false) (w * 64) 64) }
+// Word w of the set of the numbers that pass a test.
+fn pack_word<F: Fn(usize) -> bool>(test: &F, w: usize) -> u64
+    requires callable { F.IsAlwaysCallable test.now }
+    requires word { w < 8 }
+    ensures { (p : ℕ → Bool) → ((i : ℕ) (r : Bool) → F.post test.now i r → r ≡ p i) → result ≡ mask (bits p (w * 64) 64) }
 {
     let mut word = 0u64;
     for b in (0..64usize).rev() {
-        word = word * 2 + flags[w * 64 + b] as u64;
+        word = word * 2 + test(w * 64 + b) as u64;
     }
     word
 }
 
-// The standing that the flags say.
-fn pack(flags: &[bool; 512]) -> [u64; 8]
-    ensures { Packs (λ i. slice_index_or flags.now i false) result }
+// The set of the numbers below 512 that pass a test.
+fn pack<F: Fn(usize) -> bool>(test: &F) -> [u64; 8]
+    requires { F.IsAlwaysCallable test.now }
+    ensures { (p : ℕ → Bool) → ((i : ℕ) (r : Bool) → F.post test.now i r → r ≡ p i) → Packs p result }
 {
     let mut words = [0u64; 8];
-    for w in 0..8usize {
-        words[w] = pack_word(flags, w);
+    for (w, word) in words.iter_mut().enumerate() {
+        *word = pack_word(test, w);
     }
     words
 }
@@ -48,11 +50,7 @@ pub(crate) fn first_standing(labels: &[u32], count: usize, place: usize) -> [u64
     requires place { place < 32 }
     ensures { Packs (upto count (λ i. on place (slice_index labels.now i))) result }
 {
-    let mut flags = [false; 512];
-    for i in 0..count {
-        flags[i] = (labels[i] >> place) % 2 == 1;
-    }
-    pack(&flags)
+    pack(&|i| i < count && (labels[i] >> place) % 2 == 1)
 }
 
 // The standing one letter after another: the labels that lead to one of it at that letter.
@@ -60,11 +58,7 @@ fn standing_after(table: &[u16], count: usize, from: &[u64; 8], letter: u8) -> [
     requires { Closed table.now count }
     ensures { Packs (led table.now count from.now letter) result }
 {
-    let mut flags = [false; 512];
-    for i in 0..count {
-        flags[i] = has_label(from, table[i * 256 + letter as usize] as usize);
-    }
-    pack(&flags)
+    pack(&|i| i < count && has_label(from, table[i * 256 + letter as usize] as usize))
 }
 
 // The standings by a table of labels, with letters put after their words.
