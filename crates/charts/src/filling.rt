@@ -24,13 +24,10 @@ fn fill_places(
     ensures { MatchResult result (λ p. FilledOnce (formula_of formula.now) (kept_of formula.now) labels.new p.0 standings.new p.1 next.new) (λ e. Refused (formula_of formula.now) (kept_of formula.now) (length labels.old) (length standings.old) e) }
 {
     let place = formula.root_place();
-    let Some(a) = all_labels(labels, table, formula) else {
-        return Err(FillingFault::LabelsExceed);
-    };
+    let a = all_labels(labels, table, formula).ok_or(FillingFault::LabelsExceed)?;
     let first = first_standing(labels, a, place);
-    let Some(b) = all_standings(standings, next, table, a, &first) else {
-        return Err(FillingFault::StandingsExceed);
-    };
+    let b =
+        all_standings(standings, next, table, a, &first).ok_or(FillingFault::StandingsExceed)?;
     Ok((a, b))
 }
 
@@ -48,8 +45,8 @@ pub(crate) fn fill_areas(
     let places = standings.len().min(next.len() / 256).min(512);
     fill_places(
         formula,
-        &mut labels[0..label_places],
-        &mut standings[0..places],
+        &mut labels[..label_places],
+        &mut standings[..places],
         next,
         &mut table,
     )

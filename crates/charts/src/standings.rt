@@ -53,14 +53,6 @@ pub(crate) fn first_standing(labels: &[u32], count: usize, place: usize) -> [u64
     pack(&|i| i < count && (labels[i] >> place) % 2 == 1)
 }
 
-// The standing one letter after another: the labels that lead to one of it at that letter.
-fn standing_after(table: &[u16], count: usize, from: &[u64; 8], letter: u8) -> [u64; 8]
-    requires { Closed table.now count }
-    ensures { Packs (led table.now count from.now letter) result }
-{
-    pack(&|i| i < count && has_label(from, table[i * 256 + letter as usize] as usize))
-}
-
 // The standings by a table of labels, with letters put after their words.
 #[derive(Drop)]
 struct Standings<'a> {
@@ -83,7 +75,7 @@ impl<'a> Automaton for Standings<'a> {
     }
 
     fn after(&self, letter: u8, from: &[u64; 8]) -> [u64; 8] {
-        standing_after(self.table, self.count, from, letter)
+        pack(&|i| i < self.count && has_label(from, self.table[i * 256 + letter as usize] as usize))
     }
 
     ghost same = { λ s u x y same p. words_packs _ x y same p };
