@@ -46,29 +46,6 @@ packs_words p q r t s u h = record { at = λ w l. s.word w l ∙ ap mask (bits_s
 pub words_packs : (p : ℕ → Bool) (r t : List ℕ) → SameWords r t → Packs p t → Packs p r
 words_packs p r t s u = record { word = λ w l. s.at w l ∙ u.word w l }
 
--- ---- flags
-
-pub no_flags : (p : ℕ → Bool) → Flags p 0 (replicate 512 false)
-no_flags p = record { size = refl; at = λ i l. absurd (omega arith); rest = λ i l. none 512 i }
-  where
-    none : (n i : ℕ) → get_or (replicate n false) i false ≡ false
-    none zero i = refl
-    none (suc n) zero = refl
-    none (suc n) (suc i) = none n i
-
-pub flags_more : (p : ℕ → Bool) (n : ℕ) (fl : List Bool) (b : Bool) → n < 512 → b ≡ p n → Flags p n fl → Flags p (n + 1) (set fl n b)
-flags_more p n fl b l e f = record {
-  size = simp length-set f.size;
-  at = λ i h. ⊎_elim
-      (λ (q : i ≡ n). ap (λ (j : ℕ). get_or (set fl n b) j false) q ∙ get_or-set_same fl n b false (omega (arith, f.size)) ∙ e ∙ ap p (sym q))
-      (λ q. get_or-set_other fl n i b false q ∙ f.at i (omega arith)) (cases_eq i n);
-  rest = λ i h. let ne : i ≢ n = omega arith in get_or-set_other fl n i b false ne ∙ f.rest i (omega arith);
-}
-
-pub flags_upto : (p : ℕ → Bool) (m n : ℕ) (fl : List Bool) → m ≡ n → Flags p m fl → (r : List ℕ) → Packs (λ i. get_or fl i false) r → Packs (upto n p) r
-flags_upto p m n fl e f r s = packs_same _ _ r
-    (λ k l. ⊎_elim (λ h. f.at k (omega arith) ∙ ap (λ b. b && p k) (sym (lt-ltb k n h))) (λ h. f.rest k (omega arith) ∙ ap (λ b. b && p k) (sym (le-ltb k n h))) (cases_lt k n)) s
-
 pub upto_in : (n : ℕ) (p : ℕ → Bool) (i : ℕ) → i < n → upto n p i ≡ p i
 upto_in n p i l = ap (λ b. b && p i) (lt-ltb i n l)
 
@@ -104,5 +81,13 @@ word_small j word r pos l small =
     let b = bit_small r in
     rw (e, t) (omega arith)
 
-pub word_start : (p : ℕ → Bool) (i : ℕ) → ◌≡◌ {A = ℕ} 0 (mask (drop 64 (bits p i 64)))
-word_start p i = sym (ap (λ (q : ℕ). mask (drop q (bits p i 64))) (sym (bits_length p i 64)) ∙ ap mask (drop-length (bits p i 64)))
+-- where no number from i + e on passes
+pub none_left : (p : ℕ → Bool) (i n e : ℕ) → ((k : ℕ) → i + e ≤ k → k < i + n → p k ≡ false) → ◌≡◌ {A = ℕ} 0 (mask (drop e (bits p i n)))
+unfolding bits
+none_left p i zero zero h = refl
+none_left p i zero (suc e) h = refl
+none_left p i (suc n) zero h =
+    let b : ◌≡◌ {A = ℕ} (cond (p i) 1 0) 0 = ap (λ x. cond {A = ℕ} x 1 0) (h i (omega arith) (omega arith)) in
+    let t = none_left p (suc i) n zero (λ k l m. h k (omega arith) (omega arith)) in
+    omega (arith, b, t)
+none_left p i (suc n) (suc e) h = none_left p (suc i) n e (λ k l m. h k (omega arith) (omega arith))

@@ -18,27 +18,28 @@ pub(crate) fn has_label(standing: &[u64; 8], i: usize) -> bool
     (standing[i / 64] >> (i % 64)) % 2 == 1
 }
 
-// Word w of the set of the numbers that pass a test.
-fn pack_word<F: Fn(usize) -> bool>(test: &F, w: usize) -> u64
-    requires callable { F.IsAlwaysCallable test.now }
+// Word w of the set of the numbers below `count` that pass a test.
+fn pack_word<F: Fn(usize) -> bool>(count: usize, test: &F, w: usize) -> u64
+    requires callable { (i : ℕ) → i < count → F.pre test.now i }
     requires word { w < 8 }
-    ensures { (p : ℕ → Bool) → ((i : ℕ) (r : Bool) → F.post test.now i r → r ≡ p i) → result ≡ mask (bits p (w * 64) 64) }
+    ensures { (p : ℕ → Bool) → ((i : ℕ) (r : Bool) → i < count → F.post test.now i r → r ≡ p i) → result ≡ mask (bits (upto count p) (w * 64) 64) }
 {
     let mut word = 0u64;
-    for b in (0..64usize).rev() {
+    let end = count.saturating_sub(w * 64).min(64);
+    for b in (0..end).rev() {
         word = word * 2 + test(w * 64 + b) as u64;
     }
     word
 }
 
-// The set of the numbers below 512 that pass a test.
-fn pack<F: Fn(usize) -> bool>(test: &F) -> [u64; 8]
-    requires { F.IsAlwaysCallable test.now }
-    ensures { (p : ℕ → Bool) → ((i : ℕ) (r : Bool) → F.post test.now i r → r ≡ p i) → Packs p result }
+// The set of the numbers below `count` that pass a test.
+fn pack<F: Fn(usize) -> bool>(count: usize, test: &F) -> [u64; 8]
+    requires { (i : ℕ) → i < count → F.pre test.now i }
+    ensures { (p : ℕ → Bool) → ((i : ℕ) (r : Bool) → i < count → F.post test.now i r → r ≡ p i) → Packs (upto count p) result }
 {
     let mut words = [0u64; 8];
     for (w, word) in words.iter_mut().enumerate() {
-        *word = pack_word(test, w);
+        *word = pack_word(count, test, w);
     }
     words
 }
@@ -50,7 +51,7 @@ pub(crate) fn first_standing(labels: &[u32], count: usize, place: usize) -> [u64
     requires place { place < 32 }
     ensures { Packs (upto count (λ i. on place (slice_index labels.now i))) result }
 {
-    pack(&|i| i < count && (labels[i] >> place) % 2 == 1)
+    pack(count, &|i| (labels[i] >> place) % 2 == 1)
 }
 
 // The standings by a table of labels, with letters put after their words.
@@ -75,7 +76,7 @@ impl<'a> Automaton for Standings<'a> {
     }
 
     fn after(&self, letter: u8, from: &[u64; 8]) -> [u64; 8] {
-        pack(&|i| i < self.count && has_label(from, self.table[i * 256 + letter as usize] as usize))
+        pack(self.count, &|i| has_label(from, self.table[i * 256 + letter as usize] as usize))
     }
 
     ghost same = { λ s u x y same p. words_packs _ x y same p };
