@@ -4,6 +4,11 @@ use Rattle.std.specs.Prelude.{◌≡◌, ℕ, ◌+◌, ◌*◌, ◌<◌, ◌≤�
 use Rattle.logic.specs.Formula.{Letters}
 use Rattle.once.specs.Once.{Apart}
 
+-- at most 512 items have room, and the next numbers have a row for each
+pub record Rooms {X : Type 0} (xs : List X) (nx : List ℕ) : Type 0 where
+  pub few : length xs ≤ 512
+  pub room : length xs * 256 ≤ length nx
+
 -- a word leads to each of the first n
 pub record Reaches {X : Type 0} (d : X) (In : List ℕ → X → Type 0) (xs : List X) (n : ℕ) : Type 0 where
   pub at : (k : ℕ) → k < n → (u : List ℕ) × Letters u × In u (slice_index_or xs k d)

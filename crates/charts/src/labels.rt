@@ -1,10 +1,11 @@
 // All labels of a breach formula, by a worklist. The label of a word says of which kept formulas the word is a breach.
-ghost use Rattle.std.specs.Prelude.{◌≡◌, ℕ, ◌*◌, ◌≤◌, ◌∷◌, length, MatchOption};
+ghost use Rattle.std.specs.Prelude.{length, MatchOption};
 ghost use Rattle.std.proofs.Common.{rules};
 ghost use Rattle.logic.specs.Formula.{Letters};
 ghost use Rattle.logic.specs.Counting.{More};
 ghost use Rattle.logic.specs.Standings.{SameLabel};
 ghost use Rattle.charting.specs.Breaches.{kept_of};
+ghost use Rattle.charting.specs.Worklists.{Rooms};
 ghost use Rattle.charting.specs.Labels.{Labels, at_front, Labelled};
 
 use crate::worklist::{Automaton, all_states};
@@ -37,8 +38,7 @@ pub(crate) fn all_labels(
     table: &mut [u16],
     formula: &BreachFormula,
 ) -> Option<usize>
-    requires few { length area.old ≤ 512 }
-    requires room { length area.old * 256 ≤ length table.old }
+    requires { Rooms area.old table.old }
     ensures labelled { MatchOption result (More (length area.old) Letters (SameLabel (kept_of formula.now))) (λ n. Labelled (kept_of formula.now) area.new n table.new) }
 {
     all_states(formula, area, table)

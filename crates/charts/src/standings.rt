@@ -4,6 +4,7 @@ ghost use Rattle.std.specs.Prelude.{◌≡◌, ℕ, ◌*◌, ◌<◌, ◌≤◌,
 ghost use Rattle.logic.specs.Masks.{mask};
 ghost use Rattle.logic.specs.Formula.{on};
 ghost use Rattle.charting.specs.Sets.{bit_of, bits, Packs, upto};
+ghost use Rattle.charting.specs.Worklists.{Rooms};
 ghost use Rattle.charting.specs.Walks.{Closed, led, Reached, at_end, Charted, Overfull};
 ghost use Rattle.logic.proofs.Tables.{letters_append};
 ghost use Rattle.charting.proofs.SetSteps.{words_packs};
@@ -93,8 +94,7 @@ pub(crate) fn all_standings(
     first: &[u64; 8],
 ) -> Option<usize>
     requires closed { Closed table.now count }
-    requires few { length area.old ≤ 512 }
-    requires room { length area.old * 256 ≤ length next.old }
+    requires rooms { Rooms area.old next.old }
     requires start { Reached table.now count first.now [] first.now }
     ensures charted { MatchOption result (Overfull table.now count first.now (length area.old)) (λ n. Charted table.now count first.now area.new n next.new) }
 {

@@ -1,8 +1,8 @@
 // A worklist: all states of an automaton into a lent area, and the number of the next state for each state and letter.
-ghost use Rattle.std.specs.Prelude.{◌≡◌, ℕ, ◌+◌, ◌*◌, ◌<◌, ◌≤◌, List, [], length, MatchOption, slice_index, slice_index_or};
+ghost use Rattle.std.specs.Prelude.{◌≡◌, ℕ, ◌*◌, ◌<◌, List, [], length, MatchOption, slice_index};
 ghost use Rattle.logic.specs.Formula.{Letters};
 ghost use Rattle.once.specs.Once.{GoesOn};
-ghost use Rattle.charting.specs.Worklists.{Reaches, LetterRow, LetterRows, Crowds, Complete, Exceeds};
+ghost use Rattle.charting.specs.Worklists.{Rooms, Reaches, LetterRow, Crowds, Complete, Exceeds};
 
 use once::{Item, KeepOnce};
 
@@ -32,8 +32,7 @@ pub(crate) trait Automaton {
 // The states one letter after state i, into its row of the next numbers; none where the list is full.
 fn fill_row<A: Automaton>(automaton: &A, list: &mut KeepOnce<A::State>, next: &mut [u16], i: usize) -> Option<()>
     requires known { i < list.old.len }
-    requires few { length list.old.area.now ≤ 512 }
-    requires room { i * 256 + 256 ≤ length next.old }
+    requires rooms { Rooms list.old.area.now next.old }
     requires walks { (d : A.State) → Reaches d (A.leads automaton.now) list.old.area.now list.old.len }
     ensures goes_on { GoesOn A.State.alike list.old.area list.old.len list.new.area list.new.len }
     ensures walks { (d : A.State) → Reaches d (A.leads automaton.now) list.new.area.now list.new.len }
@@ -48,31 +47,18 @@ fn fill_row<A: Automaton>(automaton: &A, list: &mut KeepOnce<A::State>, next: &m
     Some(())
 }
 
-// The rows of all states; none where the list is full.
-fn fill_rows<A: Automaton>(automaton: &A, list: &mut KeepOnce<A::State>, next: &mut [u16]) -> Option<()>
-    requires few { length list.old.area.now ≤ 512 }
-    requires room { length list.old.area.now * 256 ≤ length next.old }
-    requires walks { (d : A.State) → Reaches d (A.leads automaton.now) list.old.area.now list.old.len }
-    ensures goes_on { GoesOn A.State.alike list.old.area list.old.len list.new.area list.new.len }
-    ensures walks { (d : A.State) → Reaches d (A.leads automaton.now) list.new.area.now list.new.len }
-    ensures rows { (d : A.State) → MatchOption result (Crowds A.State.alike d (A.leads automaton.now) list.new.area.now list.new.len) (λ _. LetterRows d (A.leads automaton.now) A.longer list.new.area.now list.new.len next.new list.new.len) }
-{
-    let mut done = 0;
-    while done < list.len() {
-        fill_row(automaton, list, next, done)?;
-        done += 1;
-    }
-    Some(())
-}
-
 // All states, and the next numbers; none where there are more states than places.
 pub(crate) fn all_states<A: Automaton>(automaton: &A, area: &mut [A::State], next: &mut [u16]) -> Option<usize>
-    requires few { length area.old ≤ 512 }
-    requires room { length area.old * 256 ≤ length next.old }
+    requires { Rooms area.old next.old }
     ensures { (d : A.State) → MatchOption result (Exceeds A.State.alike d (A.leads automaton.now) (length area.old)) (λ n. Complete A.State.alike d (A.leads automaton.now) A.longer area.new n next.new) }
 {
     let mut list = KeepOnce::new(&mut *area);
     list.add(automaton.first())?;
-    fill_rows(automaton, &mut list, next)?;
+    let mut done = 0;
+    // Kept: the list grows while it is walked, which no iterator over it allows.
+    while done < list.len() {
+        fill_row(automaton, &mut list, next, done)?;
+        done += 1;
+    }
     Some(list.len())
 }

@@ -12,19 +12,19 @@ use Rattle.charts.proofs.filling.fill_places.Goals as goal
 pub all_standings-requires-clause-closed : goal.all_standings-requires-clause-closed
 all_standings-requires-clause-closed c =
     let lab : Labelled (kept_of c.args.formula.now) c.all_labels.new.area c.in_ok-a.a c.all_labels.new.table = search rules in
-    rows_closed _ _ _ _ lab (omega (arith, lab.fits, c.requires.labels)) (omega (arith, lab.fits))
+    rows_closed _ _ _ _ lab (omega (arith, lab.fits, c.requires.labels.few)) (omega (arith, lab.fits, c.requires.labels.room))
 
 pub all_standings-requires-clause-start : goal.all_standings-requires-clause-start
 all_standings-requires-clause-start c =
     let lab : Labelled (kept_of c.args.formula.now) c.all_labels.new.area c.in_ok-a.a c.all_labels.new.table = search rules in
-    reached_first c.all_labels.new.table c.in_ok-a.a _ _ (omega (arith, lab.fits, c.requires.labels)) c.first_standing-first.ensures
+    reached_first c.all_labels.new.table c.in_ok-a.a _ _ (omega (arith, lab.fits, c.requires.labels.few)) c.first_standing-first.ensures
 
 pub returns-in_err-b : goal.returns-in_err-b
 returns-in_err-b c =
     let lab : Labelled (kept_of c.args.formula.now) c.all_labels.new.area c.in_ok-a.a c.all_labels.new.table = search rules in
     let b = c.args.formula.now in
     let at = c.root_place-place.ensures in
-    let few : c.in_ok-a.a ≤ 512 = omega (arith, lab.fits, c.requires.labels) in
+    let few : c.in_ok-a.a ≤ 512 = omega (arith, lab.fits, c.requires.labels.few) in
     let over : Overfull c.all_labels.new.table c.in_ok-a.a c.first_standing-first.result (length c.args.standings.now) = search rules in
     let is : c.from_residual-in_err-b.result ≡ Err StandingsExceed = search rules in
     rw is (record {
@@ -41,8 +41,8 @@ returns c =
     let lab : Labelled (kept_of c.args.formula.now) c.all_labels.new.area c.in_ok-a.a c.all_labels.new.table = search rules in
     let b = c.args.formula.now in
     let at = c.root_place-place.ensures in
-    let few : c.in_ok-a.a ≤ 512 = omega (arith, lab.fits, c.requires.labels) in
+    let few : c.in_ok-a.a ≤ 512 = omega (arith, lab.fits, c.requires.labels.few) in
     let ch : Charted c.all_labels.new.table c.in_ok-a.a c.first_standing-first.result c.all_standings.new.area c.in_ok-b.b c.all_standings.new.next = search rules in
     filled_once (formula_of b) (kept_of b) c.root_place-place.result (root_bit b c.root_place-place.result at.within at.is)
     c.all_labels.new.area c.all_labels.new.table c.in_ok-a.a few lab c.first_standing-first.result c.first_standing-first.ensures
-    c.all_standings.new.area c.in_ok-b.b c.all_standings.new.next ch (omega (arith, ch.fits, c.requires.next))
+    c.all_standings.new.area c.in_ok-b.b c.all_standings.new.next ch (omega (arith, ch.fits, c.requires.standings.room))
