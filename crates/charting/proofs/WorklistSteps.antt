@@ -103,19 +103,7 @@ module _ {X : Type 0} (alike : X → X → Type 0) (In : List ℕ → X → Type
 
 module _ {X : Type 0} (alike : X → X → Type 0) (In : List ℕ → X → Type 0) (more : ℕ → List ℕ → List ℕ)
     (a b : MutBor (List X)) (n m : ℕ) (blank : n ≡ 0) (x : X) (start : In [] x) where
-  -- no place for it
-  pub exceeds_at_once : (ys : List X) (k : ℕ) → Adds alike a.now n x None ys k → (d : X) → Exceeds alike d In (length a.now)
-  exceeds_at_once ys k adds d = subst (Exceeds alike d In) adds.1 (record {
-    sets = a.now;
-    apart = none_apart alike a.now n blank;
-    walks = record { at = λ j h. absurd (omega (arith, h, blank)) };
-    more = record { filled = adds.1; word = []; letters = tt; set = x; reached = start; new = λ j h. absurd (omega (arith, h, blank)) };
-  })
-
   module _ (k : ℕ) (adds : Adds alike a.now n x (Some k) b.now m) (on : GoesOn alike a n b m) where
-    pub first_reached : (d : X) → Reaches d In b.now m
-    first_reached d = reaches_more alike d In more a.now n x k b.now m adds [] tt start (record { at = λ j h. absurd (omega (arith, h, blank)) })
-
     module _ (c : MutBor (List X)) (o : ℕ) (then : GoesOn alike b m c o) (d : X) (walks : Reaches d In c.now o) where
       apart : Apart alike c.now o
       apart = then.apart (on.apart (none_apart alike a.now n blank))

@@ -1,7 +1,7 @@
 use Rattle.std.proofs.Common.{◌<◌, ◌∙◌, arith, rules}
 use Rattle.charting.specs.Worklists.{Complete}
 use Rattle.charting.proofs.Growth.{goes_on_trans}
-use Rattle.charting.proofs.WorklistSteps.{rows_more, rows_filled, first_reached, exceeds, complete}
+use Rattle.charting.proofs.WorklistSteps.{rows_more, rows_filled, exceeds, complete}
 use Rattle.charts.proofs.worklist.all_states.Goals as goal
 
 pub loop-done-preserved : goal.loop-done-preserved
