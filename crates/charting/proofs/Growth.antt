@@ -1,6 +1,7 @@
 -- What a list that keeps once has after additions. Assumes nothing.
 use Rattle.std.proofs.Common.{◌≡◌, ℕ, ◌<◌, ◌≢◌, List, get_or, set, Some, sym, ap, ◌∙◌, subst, inl, inr, arith, get_or-set_other, get_or-set_same, below_more}
-use Rattle.once.specs.Once.{Grows, Adds, Apart}
+use denote.Ref.{MutBor}
+use Rattle.once.specs.Once.{Grows, GoesOn, Adds, Apart}
 
 pub grows_trans : {X : Type 0} {xs ys zs : List X} {n m o : ℕ} → Grows xs n ys m → Grows ys m zs o → Grows xs n zs o
 grows_trans g h = record {
@@ -8,6 +9,9 @@ grows_trans g h = record {
   stays = λ k d p. h.stays k d (omega (arith, p, g.more)) ∙ g.stays k d p;
   rest = λ k d p. h.rest k d p ∙ g.rest k d (omega (arith, p, h.more));
 }
+
+pub goes_on_trans : {X : Type 0} {alike : X → X → Type 0} {a b c : MutBor (List X)} {n m o : ℕ} → GoesOn alike a n b m → GoesOn alike b m c o → GoesOn alike a n c o
+goes_on_trans g h = record { lent = h.lent ∙ g.lent; size = h.size ∙ g.size; grows = grows_trans g.grows h.grows; apart = λ d. h.apart (g.apart d) }
 
 -- what holds of each kept item and of the added one, holds of each after the addition
 pub adds_each : {X : Type 0} (alike : X → X → Type 0) (xs : List X) (n : ℕ) (x : X) (k : ℕ) (ys : List X) (m : ℕ) (d : X) (P : X → Type 0)

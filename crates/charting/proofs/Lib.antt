@@ -1,6 +1,7 @@
 pub mod Growth
 pub mod OfBreach
-pub mod LabelSteps
+pub mod WorklistSteps
+pub mod WorklistEnds
 pub mod LabelEnds
 pub mod SetSteps
 pub mod WalkSteps

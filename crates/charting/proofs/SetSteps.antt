@@ -1,5 +1,5 @@
 -- Sets as words. Assumes nothing.
-use Rattle.std.proofs.Common.{◌≡◌, ℕ, zero, suc, ◌+◌, ◌-◌, ◌*◌, ◌/◌, ◌%◌, ◌^◌, ◌<◌, ◌≤◌, Bool, true, false, cond, ◌&&◌, ◌≢◌, List, ◌∷◌, length, get_or, drop, set, replicate, sym, refl, ap, ◌∙◌, ap₂, ⊎_elim, arith, length-drop, length-set, drop-cons, get_or-set_other, get_or-set_same, pow_mono}
+use Rattle.std.proofs.Common.{◌≡◌, ℕ, zero, suc, ◌+◌, ◌-◌, ◌*◌, ◌/◌, ◌%◌, ◌^◌, ◌<◌, ◌≤◌, Bool, true, false, cond, ◌&&◌, ◌≢◌, List, ◌∷◌, length, get_or, drop, set, replicate, sym, refl, ap, ◌∙◌, ap₂, ⊎_elim, arith, length-drop, length-set, drop-cons, get_or-set_other, get_or-set_same, pow-suc}
 use lib.Seq.{drop-length}
 use mir.Val.{bool_byte}
 use Rattle.std.proofs.lemmas.Bool.{cases_eq, cases_lt, lt-ltb, le-ltb}
@@ -46,29 +46,6 @@ packs_words p q r t s u h = record { at = λ w l. s.word w l ∙ ap mask (bits_s
 pub words_packs : (p : ℕ → Bool) (r t : List ℕ) → SameWords r t → Packs p t → Packs p r
 words_packs p r t s u = record { word = λ w l. s.at w l ∙ u.word w l }
 
--- ---- flags
-
-pub no_flags : (p : ℕ → Bool) → Flags p 0 (replicate 512 false)
-no_flags p = record { size = refl; at = λ i l. absurd (omega arith); rest = λ i l. none 512 i }
-  where
-    none : (n i : ℕ) → get_or (replicate n false) i false ≡ false
-    none zero i = refl
-    none (suc n) zero = refl
-    none (suc n) (suc i) = none n i
-
-pub flags_more : (p : ℕ → Bool) (n : ℕ) (fl : List Bool) (b : Bool) → n < 512 → b ≡ p n → Flags p n fl → Flags p (n + 1) (set fl n b)
-flags_more p n fl b l e f = record {
-  size = simp length-set f.size;
-  at = λ i h. ⊎_elim
-      (λ (q : i ≡ n). ap (λ (j : ℕ). get_or (set fl n b) j false) q ∙ get_or-set_same fl n b false (omega (arith, f.size)) ∙ e ∙ ap p (sym q))
-      (λ q. get_or-set_other fl n i b false q ∙ f.at i (omega arith)) (cases_eq i n);
-  rest = λ i h. let ne : i ≢ n = omega arith in get_or-set_other fl n i b false ne ∙ f.rest i (omega arith);
-}
-
-pub flags_upto : (p : ℕ → Bool) (m n : ℕ) (fl : List Bool) → m ≡ n → Flags p m fl → (r : List ℕ) → Packs (λ i. get_or fl i false) r → Packs (upto n p) r
-flags_upto p m n fl e f r s = packs_same _ _ r
-    (λ k l. ⊎_elim (λ h. f.at k (omega arith) ∙ ap (λ b. b && p k) (sym (lt-ltb k n h))) (λ h. f.rest k (omega arith) ∙ ap (λ b. b && p k) (sym (le-ltb k n h))) (cases_lt k n)) s
-
 pub upto_in : (n : ℕ) (p : ℕ → Bool) (i : ℕ) → i < n → upto n p i ≡ p i
 upto_in n p i l = ap (λ b. b && p i) (lt-ltb i n l)
 
@@ -81,29 +58,36 @@ one_bit : (b : Bool) → bool_byte b ≡ cond b 1 0
 one_bit true = refl
 one_bit false = refl
 
-pub bit_small : (b : Bool) → bool_byte b ≤ 1
+bit_small : (b : Bool) → bool_byte b ≤ 1
 bit_small true = omega arith
 bit_small false = omega arith
 
-pub word_more : (p : ℕ → Bool) (i j word : ℕ) → 0 < j → j ≤ 64 → word ≡ mask (drop j (bits p i 64))
-    → word * 2 + bool_byte (p (i + (j - 1))) ≡ mask (drop (j - 1) (bits p i 64))
-word_more p i j word pos l e =
+pub word_more : (p : ℕ → Bool) (i j word : ℕ) (r : Bool) → 0 < j → j ≤ 64 → r ≡ p (i + (j - 1)) → word ≡ mask (drop j (bits p i 64))
+    → word * 2 + bool_byte r ≡ mask (drop (j - 1) (bits p i 64))
+word_more p i j word r pos l says e =
     let bs = bits p i 64 in
     let k = j - 1 in
     let s : suc k ≡ j = omega arith in
     let kl : k < length bs = omega (arith, bits_length p i 64) in
     let m : mask (drop k bs) ≡ cond (get_or bs k false) 1 0 + 2 * mask (drop (suc k) bs) = ap mask (drop-cons bs k false kl) in
     let e2 : word ≡ mask (drop (suc k) bs) = e ∙ ap (λ (q : ℕ). mask (drop q bs)) (sym s) in
-    let b : bool_byte (p (i + k)) ≡ cond (get_or bs k false) 1 0 = one_bit (p (i + k)) ∙ ap (λ x. cond {A = ℕ} x 1 0) (sym (bits_at p i 64 k (omega arith))) in
+    let b : bool_byte r ≡ cond (get_or bs k false) 1 0 = one_bit r ∙ ap (λ x. cond {A = ℕ} x 1 0) (says ∙ sym (bits_at p i 64 k (omega arith))) in
     omega (arith, m, e2, b)
 
-pub word_fits : (p : ℕ → Bool) (i j word : ℕ) → 0 < j → word ≡ mask (drop j (bits p i 64)) → word < 9223372036854775808
-word_fits p i j word pos e =
-    let bs = drop j (bits p i 64) in
-    let s = (masks_are_right bs).small in
-    let n : length bs ≡ 64 - j = length-drop j (bits p i 64) ∙ ap (λ (q : ℕ). q - j) (bits_length p i 64) in
-    let q : 2 ^ length bs ≤ 2 ^ 63 = pow_mono {i = length bs} {j = 63} (omega arith) in
-    omega (arith, s, q, e)
+pub word_small : (j word : ℕ) (r : Bool) → 0 < j → j ≤ 64 → word < 2 ^ (64 - j) → word * 2 + bool_byte r < 2 ^ (64 - (j - 1))
+word_small j word r pos l small =
+    let e : 64 - (j - 1) ≡ suc (64 - j) = omega arith in
+    let t : 2 ^ suc (64 - j) ≡ 2 ^ (64 - j) * 2 = pow-suc 2 (64 - j) in
+    let b = bit_small r in
+    rw (e, t) (omega arith)
 
-pub word_start : (p : ℕ → Bool) (i : ℕ) → ◌≡◌ {A = ℕ} 0 (mask (drop 64 (bits p i 64)))
-word_start p i = sym (ap (λ (q : ℕ). mask (drop q (bits p i 64))) (sym (bits_length p i 64)) ∙ ap mask (drop-length (bits p i 64)))
+-- where no number from i + e on passes
+pub none_left : (p : ℕ → Bool) (i n e : ℕ) → ((k : ℕ) → i + e ≤ k → k < i + n → p k ≡ false) → ◌≡◌ {A = ℕ} 0 (mask (drop e (bits p i n)))
+unfolding bits
+none_left p i zero zero h = refl
+none_left p i zero (suc e) h = refl
+none_left p i (suc n) zero h =
+    let b : ◌≡◌ {A = ℕ} (cond (p i) 1 0) 0 = ap (λ x. cond {A = ℕ} x 1 0) (h i (omega arith) (omega arith)) in
+    let t = none_left p (suc i) n zero (λ k l m. h k (omega arith) (omega arith)) in
+    omega (arith, b, t)
+none_left p i (suc n) (suc e) h = none_left p (suc i) n e (λ k l m. h k (omega arith) (omega arith))

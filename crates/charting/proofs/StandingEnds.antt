@@ -20,7 +20,8 @@ use Rattle.charting.specs.Walks.{Closed, trace, Reached, Charted, Overfull}
 use Rattle.charting.proofs.SetSteps.{packs_at, packs_words, upto_in, upto_out}
 use Rattle.charting.specs.Labels.{Labelled}
 use Rattle.charting.specs.Filled.{Stands, after, walked, ClosedNext, Filled, FilledOnce}
-use Rattle.charting.proofs.LabelEnds.{Known, word_at, word_is, mask_same}
+use Rattle.charting.proofs.LabelEnds.{mask_same}
+use Rattle.charting.proofs.WorklistEnds.{counted, too_many}
 
 module _ (f : Formula) (ks : List Formula) (place : ℕ) (root_bit : (w : List ℕ) → on place (mask (label ks w)) ≡ sat f w)
     (ls tb : List ℕ) (a : ℕ) (few : a ≤ 512) (lab : Labelled ks ls a tb) (first : List ℕ) (starts : Packs (upto a (λ i. on place (get_or ls i 0))) first) where
@@ -122,25 +123,9 @@ module _ (f : Formula) (ks : List Formula) (place : ℕ) (root_bit : (w : List �
         (λ more. absurd (ch.apart.differ (walked nx v) (walked nx u) [] more x.0 (same_reached v u _ _ lv lu y.1 x.1 (λ ℓ. ((e ℓ).1, (e ℓ).0))))) d)
         (cases_order (walked nx u) (walked nx v))
 
-    P : List ℕ → ℕ → Type 0
-    P u k = Reached tb a first u (get_or st k [])
-
     standing_classes : Classes Letters (SameStanding ks (Breach f)) b
-    unfolding P
-    standing_classes =
-        let is = word_is P b ch.walks.at in
-        record {
-          one = word_at P b ch.walks.at;
-          inside = λ i l. (is i l).0;
-          covers = λ u l. let w = walk_is u l in let k = is (walked nx u) w.0 in (
-            walked nx u,
-            w.0,
-            reached_same u (word_at P b ch.walks.at (walked nx u)) (get_or st (walked nx u) []) l k.0 w.1 k.1,
-          );
-          differ = λ i j less l e.
-              let x = is i (omega arith) in let y = is j l in
-              ch.apart.differ i j [] less l (same_reached _ _ _ _ x.0 y.0 x.1 y.1 e);
-        }
+    standing_classes = counted SameWords [] (Reached tb a first) (SameStanding ks (Breach f)) same_reached reached_same st b ch.apart ch.walks
+        (λ u l. let w = walk_is u l in (walked nx u, w.0, w.1))
 
     next_closed : ClosedNext nx b
     next_closed k h =
@@ -171,38 +156,8 @@ module _ (f : Formula) (ks : List Formula) (place : ℕ) (root_bit : (w : List �
     pub filled_once : b * 256 ≤ length nx → FilledOnce f ks ls a st b nx
     filled_once room = record { filled = filled room; standings_once = one_standing }
 
-  -- ---- too many standings
-
-  module _ (room : ℕ) (ov : Overfull tb a first room) where
-    Q : List ℕ → ℕ → Type 0
-    Q u k = (k < room → Reached tb a first u (get_or ov.sets k [])) × (k ≡ room → u ≡ ov.more.word)
-
-    at : Known Q (room + 1)
-    unfolding Q
-    at k l =
-        ⊎_elim (λ h. let t = ov.walks.at k h in (t.0, t.1, ((λ q. t.2), (λ q. absurd (omega arith)))))
-        (λ h. (ov.more.word, ov.more.letters, ((λ q. absurd (omega arith)), (λ q. refl)))) (cases_lt k room)
-
-    pub too_many_standings : More room Letters (SameStanding ks (Breach f))
-    unfolding Q
-    too_many_standings =
-        let is = word_is Q (room + 1) at in
-        record {
-          pick = word_at Q (room + 1) at;
-          inside = λ i l. (is i (omega arith)).0;
-          differ = λ i j less l e.
-              let x = is i (omega arith) in
-              let y = is j (omega arith) in
-              let rx = x.1.0 (omega arith) in
-              ⊎_elim
-              (λ h. ov.apart.differ i j [] less h (same_reached _ _ _ _ x.0 y.0 rx (y.1.0 h) e))
-              (λ h.
-              let q : word_at Q (room + 1) at j ≡ ov.more.word = y.1.1 (omega arith) in
-              ov.more.new i (omega arith)
-              (same_reached _ ov.more.word _ ov.more.set x.0 ov.more.letters rx ov.more.reached
-              (subst (SameStanding ks (Breach f) (word_at Q (room + 1) at i)) q e)))
-              (cases_lt j room);
-        }
+  pub too_many_standings : (room : ℕ) → Overfull tb a first room → More room Letters (SameStanding ks (Breach f))
+  too_many_standings room ov = too_many SameWords [] (Reached tb a first) (SameStanding ks (Breach f)) same_reached room ov
 
 -- a longer area with the same front
 module _ (f : Formula) (ks : List Formula) (ls ls' : List ℕ) (a : ℕ) (st st' : List (List ℕ)) (b : ℕ) (nx : List ℕ)

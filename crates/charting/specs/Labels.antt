@@ -1,30 +1,35 @@
 -- A list of the labels of words, and its table of the labels one letter earlier. Assumes nothing.
-use Rattle.std.specs.Prelude.{◌≡◌, ℕ, ◌+◌, ◌*◌, ◌<◌, ◌≤◌, List, [], ◌∷◌, length, ◌≢◌, slice_index, slice_index_or}
+use Rattle.std.specs.Prelude.{◌≡◌, ℕ, ◌<◌, ◌≤◌, List, [], ◌∷◌, length, slice_index, slice_index_or}
 use Rattle.logic.specs.Formula.{Formula, Letters}
 use Rattle.logic.specs.Counting.{Classes}
 use Rattle.logic.specs.Labels.{label}
 use Rattle.logic.specs.Masks.{mask}
 use Rattle.logic.specs.Standings.{SameLabel}
 use Rattle.once.specs.Once.{Apart}
+use Rattle.charting.specs.Worklists.{Reaches, LetterRow, LetterRows, Crowds}
+
+-- x is the label of a word
+abbrev pub Labels : List Formula → List ℕ → ℕ → Type 0
+Labels ks w x = x ≡ mask (label ks w)
+
+-- a word with a letter before it
+abbrev pub at_front : ℕ → List ℕ → List ℕ
+at_front s w = s ∷ w
 
 -- each of the first n of ls is the label of a word
-pub record Words (ks : List Formula) (ls : List ℕ) (n : ℕ) : Type 0 where
-  pub at : (k : ℕ) → k < n → (w : List ℕ) × Letters w × (slice_index ls k ≡ mask (label ks w))
+abbrev pub Words : List Formula → List ℕ → ℕ → Type 0
+Words ks ls n = Reaches 0 (Labels ks) ls n
 
 -- the table's row i names, for the letters below b, the labels one letter earlier
-pub record Row (ks : List Formula) (ls : List ℕ) (n : ℕ) (tb : List ℕ) (i b : ℕ) : Type 0 where
-  pub below : (s : ℕ) → s < b → slice_index tb (i * 256 + s) < n
-  pub names : (s : ℕ) → s < b → (w : List ℕ) → slice_index ls i ≡ mask (label ks w) → slice_index ls (slice_index tb (i * 256 + s)) ≡ mask (label ks (s ∷ w))
+abbrev pub Row : List Formula → List ℕ → ℕ → List ℕ → ℕ → ℕ → Type 0
+Row ks ls n tb i b = LetterRow 0 (Labels ks) at_front ls n tb i b
 
-pub record Rows (ks : List Formula) (ls : List ℕ) (n : ℕ) (tb : List ℕ) (m : ℕ) : Type 0 where
-  pub at : (i : ℕ) → i < m → Row ks ls n tb i 256
+abbrev pub Rows : List Formula → List ℕ → ℕ → List ℕ → ℕ → Type 0
+Rows ks ls n tb m = LetterRows 0 (Labels ks) at_front ls n tb m
 
 -- the n labels fill the area, and there is another
-pub record Full (ks : List Formula) (ls : List ℕ) (n : ℕ) : Type 0 where
-  pub filled : n ≡ length ls
-  pub word : List ℕ
-  pub letters : Letters word
-  pub new : (k : ℕ) → k < n → slice_index ls k ≢ mask (label ks word)
+abbrev pub Full : List Formula → List ℕ → ℕ → Type 0
+Full ks ls n = Crowds (λ x y. x ≡ y) 0 (Labels ks) ls n
 
 -- the first n of ls are the labels of all words, each once, the empty word's first; and the table is whole
 pub record Labelled (ks : List Formula) (ls : List ℕ) (n : ℕ) (tb : List ℕ) : Type 0 where

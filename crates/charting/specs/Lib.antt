@@ -1,4 +1,5 @@
 pub mod Breaches
+pub mod Worklists
 pub mod Labels
 pub mod Sets
 pub mod Walks

@@ -1,8 +1,8 @@
 -- Sets of labels by a table of the labels one letter earlier. Assumes nothing.
-use Rattle.std.specs.Prelude.{◌≡◌, ℕ, ◌+◌, ◌*◌, ◌<◌, ◌≤◌, Bool, List, [], ◌∷◌, ◌++◌, length, slice_index, slice_index_or}
-use Rattle.logic.specs.Formula.{Letters}
-use Rattle.once.specs.Once.{Apart, SameWords}
+use Rattle.std.specs.Prelude.{ℕ, ◌+◌, ◌*◌, ◌<◌, ◌≤◌, Bool, List, [], ◌∷◌, ◌++◌, length, slice_index}
+use Rattle.once.specs.Once.{SameWords}
 use Rattle.charting.specs.Sets.{bit_of, Packs, upto}
+use Rattle.charting.specs.Worklists.{Reaches, LetterRow, LetterRows, Crowds, Complete, Exceeds}
 
 -- each entry of the rows below a is below a
 pub record Closed (tb : List ℕ) (a : ℕ) : Type 0 where
@@ -24,38 +24,28 @@ abbrev pub Reached : List ℕ → ℕ → List ℕ → List ℕ → List ℕ →
 Reached tb a first u r = Packs (upto a (λ i. bit_of first (trace tb u i))) r
 
 -- each of the first n of st is reached by a word
-pub record Walks (tb : List ℕ) (a : ℕ) (first : List ℕ) (st : List (List ℕ)) (n : ℕ) : Type 0 where
-  pub at : (k : ℕ) → k < n → (u : List ℕ) × Letters u × Reached tb a first u (slice_index_or st k [])
+abbrev pub Walks : List ℕ → ℕ → List ℕ → List (List ℕ) → ℕ → Type 0
+Walks tb a first st n = Reaches [] (Reached tb a first) st n
+
+-- a word with a letter after it
+abbrev pub at_end : ℕ → List ℕ → List ℕ
+at_end s u = u ++ s ∷ []
 
 -- row q of the next numbers names, for the letters below b, what is reached by one letter more
-pub record NextRow (tb : List ℕ) (a : ℕ) (first : List ℕ) (st : List (List ℕ)) (n : ℕ) (nx : List ℕ) (q b : ℕ) : Type 0 where
-  pub below : (s : ℕ) → s < b → slice_index nx (q * 256 + s) < n
-  pub names : (s : ℕ) → s < b → (u : List ℕ) → Reached tb a first u (slice_index_or st q []) → Reached tb a first (u ++ s ∷ []) (slice_index_or st (slice_index nx (q * 256 + s)) [])
+abbrev pub NextRow : List ℕ → ℕ → List ℕ → List (List ℕ) → ℕ → List ℕ → ℕ → ℕ → Type 0
+NextRow tb a first st n nx q b = LetterRow [] (Reached tb a first) at_end st n nx q b
 
-pub record NextRows (tb : List ℕ) (a : ℕ) (first : List ℕ) (st : List (List ℕ)) (n : ℕ) (nx : List ℕ) (m : ℕ) : Type 0 where
-  pub at : (q : ℕ) → q < m → NextRow tb a first st n nx q 256
+abbrev pub NextRows : List ℕ → ℕ → List ℕ → List (List ℕ) → ℕ → List ℕ → ℕ → Type 0
+NextRows tb a first st n nx m = LetterRows [] (Reached tb a first) at_end st n nx m
 
 -- the n sets fill the area, and another is reached
-pub record Crowded (tb : List ℕ) (a : ℕ) (first : List ℕ) (st : List (List ℕ)) (n : ℕ) : Type 0 where
-  pub filled : n ≡ length st
-  pub word : List ℕ
-  pub letters : Letters word
-  pub set : List ℕ
-  pub reached : Reached tb a first word set
-  pub new : (k : ℕ) → k < n → SameWords (slice_index_or st k []) set → ⊥
+abbrev pub Crowded : List ℕ → ℕ → List ℕ → List (List ℕ) → ℕ → Type 0
+Crowded tb a first st n = Crowds SameWords [] (Reached tb a first) st n
 
 -- the first n of st are the sets that all words reach, each once, the empty word's first; and the next numbers are whole
-pub record Charted (tb : List ℕ) (a : ℕ) (first : List ℕ) (st : List (List ℕ)) (n : ℕ) (nx : List ℕ) : Type 0 where
-  pub fits : n ≤ length st
-  pub some : 0 < n
-  pub apart : Apart SameWords st n
-  pub walks : Walks tb a first st n
-  pub empty : Reached tb a first [] (slice_index_or st 0 [])
-  pub rows : NextRows tb a first st n nx n
+abbrev pub Charted : List ℕ → ℕ → List ℕ → List (List ℕ) → ℕ → List ℕ → Type 0
+Charted tb a first st n nx = Complete SameWords [] (Reached tb a first) at_end st n nx
 
 -- there are more sets than fit: the list is full, without doubles, and another set is reached
-pub record Overfull (tb : List ℕ) (a : ℕ) (first : List ℕ) (room : ℕ) : Type 0 where
-  pub sets : List (List ℕ)
-  pub apart : Apart SameWords sets room
-  pub walks : Walks tb a first sets room
-  pub more : Crowded tb a first sets room
+abbrev pub Overfull : List ℕ → ℕ → List ℕ → ℕ → Type 0
+Overfull tb a first room = Exceeds SameWords [] (Reached tb a first) room

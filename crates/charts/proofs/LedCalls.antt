@@ -10,13 +10,13 @@ use Rattle.meaning.specs.Whole.{Held, ChartIs}
 use Rattle.charts.specs.declared.chart.Chart.{Chart}
 use Rattle.charts.specs.declared.state.State.{State}
 use Rattle.charts.specs.Watch.{begun, scanned}
+use Rattle.charts.specs.Kept.{SameAreas}
 use Rattle.charts.specs.Led.{held_of, mode_of, ChartLed, Answered}
 use Rattle.charts.proofs.LedSteps.{begun_answered, scan_answered, empty_first}
 
-module _ (d e : Chart) (same_labels : e.labels ≡ d.labels) (same_standings : e.standings ≡ d.standings) (same_next : e.next ≡ d.next)
-    (labels : e.label_count ≡ d.label_count) (standings : e.standing_count ≡ d.standing_count) where
+module _ (d e : Chart) (same : SameAreas d e) where
   held_same : held_of e ≡ held_of d
-  held_same = rw (same_labels, same_standings, same_next, labels, standings)
+  held_same = rw (same.0, same.1, same.2, same.3, same.4)
 
   pub begins : (r : Result (Unit {0}) BeginningFault) → (r, e.state) ≡ begun d.state → (h : History) (c : ℕ) → ChartLed h c d → Answered h c (beginning c) r e
   begins r q h c led =

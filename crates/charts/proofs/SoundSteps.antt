@@ -1,15 +1,16 @@
 -- A chart stays blank or whole. Assumes nothing.
-use Rattle.std.proofs.Common.{◌≡◌, ℕ, ◌<◌, ◌≤◌, true, false, ◌⊎◌, List, [], ◌∷◌, ◌++◌, sym, refl, ap, ◌∙◌, subst, inl, inr, true≢false, arith}
+use Rattle.std.proofs.Common.{◌≡◌, ℕ, ◌+◌, ◌*◌, ◌<◌, ◌≤◌, true, false, ◌⊎◌, List, [], ◌∷◌, ◌++◌, sym, refl, ap, ◌∙◌, subst, inl, inr, true≢false, arith}
 use mathlib.Core.Logic.{∥∥₁_map}
 use mathlib.Core.List.{foldl-append}
 use Rattle.logic.specs.Formula.{Formula, Letters}
 use Rattle.logic.proofs.Tables.{letters_append}
 use Rattle.meaning.specs.Charts.{Areas}
 use Rattle.charting.specs.Filled.{after, walked, breached, FillingOnce}
+use Rattle.charts.specs.declared.chart.Chart.{Chart}
 use Rattle.charts.specs.declared.state.State.{State}
 use Rattle.charts.specs.declared.state.State.TheVariants.{Blank, Ready, Watching, Broken}
 use Rattle.charts.specs.Watch.{least, most}
-use Rattle.charts.specs.Sound.{WholeFor, BlankOrWhole}
+use Rattle.charts.specs.Sound.{WatchKept, WholeFor, BlankOrWhole}
 
 -- the bounds of a state's standings
 pub few_of : (s : State) (n : ℕ) → n ≤ most s → n ≤ 512
@@ -17,9 +18,6 @@ few_of Blank n h = omega arith
 few_of Ready n h = omega arith
 few_of (Watching q) n h = omega arith
 few_of Broken n h = omega arith
-
-pub watching_some : (s : State) (q n : ℕ) → s ≡ Watching q → least s ≤ n → q < n
-watching_some s q n e h = let l : least (Watching q) ≤ n = subst (λ z. least z ≤ n) e h in omega arith
 
 module _ (ls : List ℕ) (a : ℕ) (st : List (List ℕ)) (b : ℕ) (nx : List ℕ) where
   pub blank_sound : a ≡ 0 → b ≡ 0 → BlankOrWhole ls a st b nx Blank
@@ -38,46 +36,44 @@ module _ (ls : List ℕ) (a : ℕ) (st : List (List ℕ)) (b : ℕ) (nx : List �
       go (inl e) = absurd (omega arith)
       go (inr w) = w
 
-  pub begun_sound : (s : State) → 0 < b → BlankOrWhole ls a st b nx s → BlankOrWhole ls a st b nx (Watching 0)
-  begun_sound s some h = ∥∥₁_map (whole_some s some h) (λ x. inr (
-    x.0,
-    record { ks = x.1.ks; keeps = x.1.keeps; few_kept = x.1.few_kept; filled = x.1.filled; watch = ([], tt, (λ z. z.0 refl), refl) },
-  ))
+-- a chart goes on being whole
+module _ (d : Chart) where
+  abbrev WholeAt : Formula → State → Type 0
+  WholeAt f s = WholeFor f d.labels.now d.label_count d.standings.now d.standing_count d.next.now s
 
-  module _ (q s : ℕ) (some : q < b) (small : s < 256) (h : BlankOrWhole ls a st b nx (Watching q)) where
+  whole_with : (s t : State) → d.state ≡ s → 0 < d.standing_count → ((x : (f : Formula) × WholeAt f s) → WatchKept x.0 d.next.now t)
+      → BlankOrWhole d.labels.now d.label_count d.standings.now d.standing_count d.next.now t
+  whole_with s t e some kept =
+      ∥∥₁_map (whole_some d.labels.now d.label_count d.standings.now d.standing_count d.next.now s some
+      (subst (BlankOrWhole d.labels.now d.label_count d.standings.now d.standing_count d.next.now) e d.whole))
+      (λ x. inr (x.0, record { ks = x.1.ks; keeps = x.1.keeps; few_kept = x.1.few_kept; filled = x.1.filled; watch = kept x }))
+
+  pub begun_sound : 0 < d.standing_count → BlankOrWhole d.labels.now d.label_count d.standings.now d.standing_count d.next.now (Watching 0)
+  begun_sound some = whole_with d.state (Watching 0) refl some (λ x. ([], tt, (λ z. z.0 refl), refl))
+
+  module _ (q s : ℕ) (at : d.state ≡ Watching q) (small : s < 256) where
+    pub watching_some : q < d.standing_count
+    watching_some = let l : least (Watching q) ≤ d.standing_count = subst (λ z. least z ≤ d.standing_count) at d.enough in omega arith
+
+    pub watching_few : d.standing_count ≤ 512
+    watching_few = subst (λ z. d.standing_count ≤ most z) at d.few
+
+    pub inside : after d.next.now q s < d.standing_count
+    inside = d.closed (q * 256 + s) (omega (arith, watching_some))
+
     -- the letters so far, with one more
-    one_more : (x : (f : Formula) × WholeFor f ls a st b nx (Watching q))
-        → Letters (x.1.watch.0 ++ s ∷ []) × (walked nx (x.1.watch.0 ++ s ∷ []) ≡ after nx q s)
+    one_more : (x : (f : Formula) × WholeAt f (Watching q)) → Letters (x.1.watch.0 ++ s ∷ []) × (walked d.next.now (x.1.watch.0 ++ s ∷ []) ≡ after d.next.now q s)
     one_more x =
         let w = x.1.watch in
-        (letters_append w.0 (s ∷ []) w.1 (small, tt), foldl-append (after nx) 0 w.0 (s ∷ []) ∙ ap (λ (p : ℕ). after nx p s) w.3)
+        (letters_append w.0 (s ∷ []) w.1 (small, tt), foldl-append (after d.next.now) 0 w.0 (s ∷ []) ∙ ap (λ (p : ℕ). after d.next.now p s) w.3)
 
-    pub broken_sound : breached st (after nx q s) ≡ true → BlankOrWhole ls a st b nx Broken
-    broken_sound e = ∥∥₁_map (whole_some (Watching q) (omega arith) h) (λ x.
+    pub broken_sound : breached d.standings.now (after d.next.now q s) ≡ true → BlankOrWhole d.labels.now d.label_count d.standings.now d.standing_count d.next.now Broken
+    broken_sound e = whole_with (Watching q) Broken at (omega (arith, watching_some)) (λ x.
+        let n = one_more x in
+        (x.1.watch.0 ++ s ∷ [], n.0, (x.1.filled.filled.breach (x.1.watch.0 ++ s ∷ []) n.0).0 (ap (breached d.standings.now) n.1 ∙ e)))
+
+    pub going_sound : breached d.standings.now (after d.next.now q s) ≡ false → BlankOrWhole d.labels.now d.label_count d.standings.now d.standing_count d.next.now (Watching (after d.next.now q s))
+    going_sound e = whole_with (Watching q) (Watching (after d.next.now q s)) at (omega (arith, watching_some)) (λ x.
         let n = one_more x in
         let says = x.1.filled.filled.breach (x.1.watch.0 ++ s ∷ []) n.0 in
-        inr (
-          x.0,
-          record {
-            ks = x.1.ks;
-            keeps = x.1.keeps;
-            few_kept = x.1.few_kept;
-            filled = x.1.filled;
-            watch = (x.1.watch.0 ++ s ∷ [], n.0, says.0 (ap (breached st) n.1 ∙ e));
-          },
-        ))
-
-    pub going_sound : breached st (after nx q s) ≡ false → BlankOrWhole ls a st b nx (Watching (after nx q s))
-    going_sound e = ∥∥₁_map (whole_some (Watching q) (omega arith) h) (λ x.
-        let n = one_more x in
-        let says = x.1.filled.filled.breach (x.1.watch.0 ++ s ∷ []) n.0 in
-        inr (
-          x.0,
-          record {
-            ks = x.1.ks;
-            keeps = x.1.keeps;
-            few_kept = x.1.few_kept;
-            filled = x.1.filled;
-            watch = (x.1.watch.0 ++ s ∷ [], n.0, (λ z. true≢false (sym (says.1 z) ∙ ap (breached st) n.1 ∙ e)), n.1);
-          },
-        ))
+        (x.1.watch.0 ++ s ∷ [], n.0, (λ z. true≢false (sym (says.1 z) ∙ ap (breached d.standings.now) n.1 ∙ e)), n.1))

@@ -12,6 +12,7 @@ use Rattle.charts.specs.declared.state.State.TheVariants.{Blank, Ready, Watching
 use Rattle.charting.specs.Filled.{after, walked, breached}
 use Rattle.charts.specs.Watch.{most, begun, scanned}
 use Rattle.charts.specs.Watched.{Holds, Begun, Scans}
+use Rattle.charts.specs.Kept.{SameAreas}
 
 -- a chart with a standing is not blank, so its beginning is accepted
 accepted : (n : ℕ) (s t : State) (r : Result (Unit {0}) BeginningFault) → 0 < n → n ≤ most s → (r, t) ≡ begun s → (r ≡ Ok tt) × (t ≡ Watching 0)
@@ -32,10 +33,9 @@ not_true : (b : Bool) → (b ≡ true → ⊥) → b ≡ false
 not_true true h = absurd (h refl)
 not_true false h = refl
 
-module _ (c d : Chart) (same_labels : d.labels ≡ c.labels) (same_standings : d.standings ≡ c.standings) (same_next : d.next ≡ c.next)
-    (labels : d.label_count ≡ c.label_count) (standings : d.standing_count ≡ c.standing_count) where
+module _ (c d : Chart) (same : SameAreas c d) where
   holds_still : (f : Formula) (ks : List Formula) → Holds f ks c → Holds f ks d
-  holds_still f ks h = rw (same_labels, same_standings, same_next, labels, standings) h
+  holds_still f ks h = rw (same.0, same.1, same.2, same.3, same.4) h
 
   pub begins : (r : Result (Unit {0}) BeginningFault) → (r, d.state) ≡ begun c.state → Begun c d r
   begins r e = record {
@@ -54,7 +54,7 @@ module _ (c d : Chart) (same_labels : d.labels ≡ c.labels) (same_standings : d
           let b = w.holds.breach (u ++ letter ∷ []) (more u w.letters) in
           let q = e ∙ followed _ _ _ u letter false w.at (not_true _ (λ t. no (b.0 t))) in (
             ap (λ p. p.0) q,
-            record { holds = holds_still f ks w.holds; letters = more u w.letters; at = rw same_next (ap (λ p. p.1) q); whole = no },
+            record { holds = holds_still f ks w.holds; letters = more u w.letters; at = rw same.2 (ap (λ p. p.1) q); whole = no },
           );
       breaks = λ f ks u w yes.
           let b = w.holds.breach (u ++ letter ∷ []) (more u w.letters) in

@@ -3,3 +3,4 @@ pub mod Watched
 pub mod Sound
 pub mod Fills
 pub mod Led
+pub mod Kept

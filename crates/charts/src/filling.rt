@@ -1,7 +1,8 @@
 // The whole filling of a chart's areas: the labels, the standings, and the next numbers.
-ghost use Rattle.std.specs.Prelude.{◌*◌, ◌≤◌, length, MatchResult};
+ghost use Rattle.std.specs.Prelude.{length, MatchResult};
 ghost use Rattle.rules.specs.Kept.{formula_of};
 ghost use Rattle.charting.specs.Breaches.{kept_of};
+ghost use Rattle.charting.specs.Worklists.{Rooms};
 ghost use Rattle.charting.specs.Filled.{FilledOnce, Refused, FillingOnce, Refusing, areas_of};
 
 use crate::labels::all_labels;
@@ -17,20 +18,15 @@ fn fill_places(
     next: &mut [u16],
     table: &mut [u16],
 ) -> Result<(usize, usize), FillingFault>
-    requires labels { length labels.old ≤ 512 }
-    requires table { length labels.old * 256 ≤ length table.old }
-    requires standings { length standings.old ≤ 512 }
-    requires next { length standings.old * 256 ≤ length next.old }
+    requires labels { Rooms labels.old table.old }
+    requires standings { Rooms standings.old next.old }
     ensures { MatchResult result (λ p. FilledOnce (formula_of formula.now) (kept_of formula.now) labels.new p.0 standings.new p.1 next.new) (λ e. Refused (formula_of formula.now) (kept_of formula.now) (length labels.old) (length standings.old) e) }
 {
     let place = formula.root_place();
-    let Some(a) = all_labels(labels, table, formula) else {
-        return Err(FillingFault::LabelsExceed);
-    };
+    let a = all_labels(labels, table, formula).ok_or(FillingFault::LabelsExceed)?;
     let first = first_standing(labels, a, place);
-    let Some(b) = all_standings(standings, next, table, a, &first) else {
-        return Err(FillingFault::StandingsExceed);
-    };
+    let b =
+        all_standings(standings, next, table, a, &first).ok_or(FillingFault::StandingsExceed)?;
     Ok((a, b))
 }
 
@@ -48,8 +44,8 @@ pub(crate) fn fill_areas(
     let places = standings.len().min(next.len() / 256).min(512);
     fill_places(
         formula,
-        &mut labels[0..label_places],
-        &mut standings[0..places],
+        &mut labels[..label_places],
+        &mut standings[..places],
         next,
         &mut table,
     )

@@ -7,3 +7,4 @@ mod filling;
 mod labels;
 mod standings;
 pub mod state;
+mod worklist;

@@ -1,3 +1,4 @@
+use denote.Ref.{MutBor}
 use Rattle.std.specs.Prelude.{◌≡◌, ℕ, ◌+◌, ◌<◌, ◌≤◌, ◌⊎◌, List, length, Some, None, Option, slice_index, slice_index_or, slice_set}
 
 -- no two of the first n entries are the same item
@@ -24,6 +25,14 @@ pub record Grows {X : Type 0} (xs : List X) (n : ℕ) (ys : List X) (m : ℕ) : 
   pub more : n ≤ m
   pub stays : (k : ℕ) (d : X) → k < n → slice_index_or ys k d ≡ slice_index_or xs k d
   pub rest : (k : ℕ) (d : X) → m ≤ k → slice_index_or ys k d ≡ slice_index_or xs k d
+
+-- the n items at the front of a lent area go on as the m at the front of another: it is the same loan of the same length,
+-- the n are still first, and there are no doubles if there were none
+pub record GoesOn {X : Type 0} (alike : X → X → Type 0) (a : MutBor (List X)) (n : ℕ) (b : MutBor (List X)) (m : ℕ) : Type 0 where
+  pub lent : b.ghost_name ≡ a.ghost_name
+  pub size : length b.now ≡ length a.now
+  pub grows : Grows a.now n b.now m
+  pub apart : Apart alike a.now n → Apart alike b.now m
 
 -- two records of eight words are the same
 pub record SameWords (xs ys : List ℕ) : Type 0 where

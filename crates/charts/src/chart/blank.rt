@@ -2,6 +2,7 @@
 ghost use Rattle.std.specs.Prelude.{◌≡◌, ℕ, None};
 ghost use Rattle.meaning.specs.Calls.{History};
 ghost use Rattle.meaning.specs.Histories.{filled_rule, watch};
+ghost use Rattle.charts.specs.Kept.{OnLoan};
 ghost use Rattle.charts.specs.Led.{ChartLed};
 
 use crate::chart::Chart;
@@ -17,7 +18,7 @@ impl<'a> Chart<'a> {
         ensures blank { result.state ≡ State.Blank }
         ensures counts { (result.label_count ≡ 0) × (result.standing_count ≡ 0) }
         ensures areas { (result.labels.now ≡ labels.old) × (result.standings.now ≡ standings.old) × (result.next.now ≡ next.old) }
-        ensures lent { (result.labels.ghost_name ≡ labels.entry.ghost_name) × (result.standings.ghost_name ≡ standings.entry.ghost_name) × (result.next.ghost_name ≡ next.entry.ghost_name) }
+        ensures lent { OnLoan labels.entry standings.entry next.entry result }
         ensures led { (h : History) (c : ℕ) → filled_rule h c ≡ None → watch h c ≡ None → ChartLed h c result }
     {
         Chart {

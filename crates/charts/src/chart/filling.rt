@@ -8,6 +8,7 @@ ghost use Rattle.rules.specs.Led.{SheetLed};
 ghost use Rattle.rules.specs.Model.{Stands};
 ghost use Rattle.charting.specs.Filled.{FillingOnce, Refusing};
 ghost use Rattle.charts.specs.Fills.{areas, ReadyWith, Emptied, Left, Fills};
+ghost use Rattle.charts.specs.Kept.{OnLoan};
 ghost use Rattle.charts.specs.Led.{ChartLed, Answered};
 
 use crate::chart::Chart;
@@ -16,27 +17,24 @@ use crate::state::State;
 use formulas::breach::BreachFormula;
 use meaning::refusals::FillingFault;
 use rules::sheet::Sheet;
-use std::mem::take;
 
 impl<'a> Chart<'a> {
     // Fills the chart for a rule of a sheet and drops the watch: the numbers of labels and of standings. Where there are too many
     // of either, the chart is blank afterwards; where there is no such rule, it stays as it was.
     pub fn fill(&mut self, sheet: &Sheet, rule: usize) -> Result<(usize, usize), FillingFault>
-        ensures lent { (self.new.labels.ghost_name ≡ self.old.labels.ghost_name) × (self.new.standings.ghost_name ≡ self.old.standings.ghost_name) × (self.new.next.ghost_name ≡ self.old.next.ghost_name) }
+        ensures lent { OnLoan self.old.labels self.old.standings self.old.next self.new }
         ensures sizes { areas self.new ≡ areas self.old }
         ensures left { Left result self.old self.new }
         ensures led { (h : History) (c s : ℕ) → SheetLed h s sheet.now → ChartLed h c self.old → Answered h c (filling c s rule (areas self.old)) result self.new }
         ensures fills { (ns : List Text) (fs : List Formula) → Stands sheet.now ns fs → Fills fs rule result self.old self.new }
     {
-        let Some(formula) = sheet.breach(rule) else {
-            return Err(FillingFault::NoRule);
-        };
+        let formula = sheet.breach(rule).ok_or(FillingFault::NoRule)?;
         self.fill_with(&formula)
     }
 
     // Fills the chart for a breach formula.
     fn fill_with(&mut self, formula: &BreachFormula) -> Result<(usize, usize), FillingFault>
-        ensures lent { (self.new.labels.ghost_name ≡ self.old.labels.ghost_name) × (self.new.standings.ghost_name ≡ self.old.standings.ghost_name) × (self.new.next.ghost_name ≡ self.old.next.ghost_name) }
+        ensures lent { OnLoan self.old.labels self.old.standings self.old.next self.new }
         ensures sizes { areas self.new ≡ areas self.old }
         ensures left { MatchResult result (λ p. ReadyWith p self.new) (λ _. Emptied self.new) }
         ensures filled { MatchResult result (λ p. FillingOnce (formula_of formula.now) (areas self.old) self.new.labels.now p.0 self.new.standings.now p.1 self.new.next.now) (λ e. Refusing (formula_of formula.now) (areas self.old) e) }
@@ -44,14 +42,12 @@ impl<'a> Chart<'a> {
         self.state = State::Blank;
         self.label_count = 0;
         self.standing_count = 0;
-        let labels = take(&mut self.labels);
-        let standings = take(&mut self.standings);
-        let next = take(&mut self.next);
-        let answer = fill_areas(formula, &mut *labels, &mut *standings, &mut *next);
-        self.labels = labels;
-        self.standings = standings;
-        self.next = next;
-        let (a, b) = answer?;
+        let (a, b) = fill_areas(
+            formula,
+            &mut *self.labels,
+            &mut *self.standings,
+            &mut *self.next,
+        )?;
         self.label_count = a;
         self.standing_count = b;
         self.state = State::Ready;

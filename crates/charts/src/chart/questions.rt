@@ -12,10 +12,7 @@ impl<'a> Chart<'a> {
     pub fn is_blank(&self) -> bool
         ensures { result ≡ blank self.now.state }
     {
-        match self.state {
-            State::Blank => true,
-            _ => false,
-        }
+        matches!(self.state, State::Blank)
     }
 
     // How many standings there are; the first is number 0.
@@ -29,23 +26,15 @@ impl<'a> Chart<'a> {
     pub fn next(&self, standing: u16, letter: u8) -> Option<u16>
         ensures { result ≡ (if nat_lt standing self.now.standing_count then Some (after self.now.next.now standing letter) else None) }
     {
-        let next = &*self.next;
-        if (standing as usize) < self.standing_count {
-            Some(next[standing as usize * 256 + letter as usize])
-        } else {
-            None
-        }
+        ((standing as usize) < self.standing_count)
+            .then(|| self.next[standing as usize * 256 + letter as usize])
     }
 
     // Whether the words that lead to a standing are breaches.
     pub fn says_breach(&self, standing: u16) -> Option<bool>
         ensures { result ≡ (if nat_lt standing self.now.standing_count then Some (breached self.now.standings.now standing) else None) }
     {
-        let standings = &*self.standings;
-        if (standing as usize) < self.standing_count {
-            Some(has_label(&standings[standing as usize], 0))
-        } else {
-            None
-        }
+        ((standing as usize) < self.standing_count)
+            .then(|| has_label(&self.standings[standing as usize], 0))
     }
 }

@@ -3,6 +3,7 @@ ghost use Rattle.std.specs.Prelude.{◌≡◌, ℕ};
 ghost use Rattle.meaning.specs.Calls.{History, beginning, scanning};
 ghost use Rattle.charts.specs.Watch.{begun, scanned, reacted};
 ghost use Rattle.charts.specs.Watched.{Begun, Scans};
+ghost use Rattle.charts.specs.Kept.{SameAreas};
 ghost use Rattle.charts.specs.Led.{ChartLed, Answered};
 
 use crate::chart::Chart;
@@ -17,12 +18,11 @@ impl<'a> Chart<'a> {
         ensures begins { (result, self.new.state) ≡ begun self.old.state }
         ensures watches { Begun self.old self.new result }
         ensures led { (h : History) (c : ℕ) → ChartLed h c self.old → Answered h c (beginning c) result self.new }
-        ensures stays { (self.new.labels ≡ self.old.labels) × (self.new.standings ≡ self.old.standings) × (self.new.next ≡ self.old.next) × (self.new.label_count ≡ self.old.label_count) × (self.new.standing_count ≡ self.old.standing_count) }
+        ensures stays { SameAreas self.old self.new }
     {
-        match self.react(Event::Begin) {
-            Ok(_) => Ok(()),
-            Err(_) => Err(BeginningFault::Blank),
-        }
+        self.react(Event::Begin)
+            .map(|_| ())
+            .map_err(|_| BeginningFault::Blank)
     }
 
     // Follows one letter. Once the letters are a breach, no more are taken.
@@ -30,7 +30,7 @@ impl<'a> Chart<'a> {
         ensures scans { (result, self.new.state) ≡ scanned self.old.standings.now self.old.next.now self.old.state letter }
         ensures watches { Scans self.old self.new letter result }
         ensures led { (h : History) (c : ℕ) → ChartLed h c self.old → Answered h c (scanning c letter) result self.new }
-        ensures stays { (self.new.labels ≡ self.old.labels) × (self.new.standings ≡ self.old.standings) × (self.new.next ≡ self.old.next) × (self.new.label_count ≡ self.old.label_count) × (self.new.standing_count ≡ self.old.standing_count) }
+        ensures stays { SameAreas self.old self.new }
     {
         self.react(Event::Scan { letter })
     }
@@ -38,7 +38,7 @@ impl<'a> Chart<'a> {
     // What an event does at each state.
     fn react(&mut self, event: Event) -> Result<Scanned, ScanningFault>
         ensures reacts { (result, self.new.state) ≡ reacted self.old.standings.now self.old.next.now self.old.state event }
-        ensures stays { (self.new.labels ≡ self.old.labels) × (self.new.standings ≡ self.old.standings) × (self.new.next ≡ self.old.next) × (self.new.label_count ≡ self.old.label_count) × (self.new.standing_count ≡ self.old.standing_count) }
+        ensures stays { SameAreas self.old self.new }
     {
         match (self.state, event) {
             (State::Blank, _) => Err(ScanningFault::Blank),

@@ -1,20 +1,18 @@
-use Rattle.std.proofs.Common.{◌+◌, ◌-◌, ◌*◌, false, get_or, arith}
-use Rattle.charting.proofs.SetSteps.{word_more, word_fits, word_start, bit_small}
+use Rattle.std.proofs.Common.{◌+◌, ◌-◌, ◌*◌, ◌<◌, sym, ◌∙◌, rules, arith}
+use Rattle.charting.specs.Sets.{upto}
+use Rattle.charting.proofs.SetSteps.{upto_in, upto_out, word_more, word_small, none_left}
 use Rattle.charts.proofs.standings.pack_word.Goals as goal
 
-pub loop-b-preserved : goal.loop-b-preserved
-loop-b-preserved c = word_more (λ i. get_or c.args.flags.now i false) (c.args.w * 64) c.loop-b.b c.loop-b.word c.loop-b-test.true c.loop-b.auto.b c.loop-b.invariant
-
-pub overflow_mul-word : goal.overflow_mul-word
-overflow_mul-word c = omega (arith, word_fits (λ i. get_or c.args.flags.now i false) (c.args.w * 64) c.loop-b.b c.loop-b.word c.loop-b-test.true c.loop-b.invariant)
-
-pub overflow_add-word-in-loop-b : goal.overflow_add-word-in-loop-b
-overflow_add-word-in-loop-b c =
-    omega (
-      arith,
-      word_fits (λ i. get_or c.args.flags.now i false) (c.args.w * 64) c.loop-b.b c.loop-b.word c.loop-b-test.true c.loop-b.invariant,
-      bit_small (get_or c.args.flags.now (c.args.w * 64 + (c.loop-b.b - 1)) false),
-    )
-
 pub loop-b-init : goal.loop-b-init
-loop-b-init c = word_start (λ i. get_or c.args.flags.now i false) (c.args.w * 64)
+loop-b-init g c = (search rules, λ p h. none_left (upto c.args.count p) (c.args.w * 64) 64 _ (λ k l m. upto_out c.args.count p k (omega (arith, c.min-end.ensures, c.saturating_sub.ensures))))
+
+pub loop-b-preserved : goal.loop-b-preserved
+loop-b-preserved g c =
+    let i = c.loop-b.invariant in
+    let n = c.args.count in
+    let k = c.args.w * 64 + (c.loop-b.b - 1) in
+    let below : k < n = omega (arith, c.min-end.ensures, c.saturating_sub.ensures) in (
+      word_small c.loop-b.b c.loop-b.word c.test.result c.loop-b-test.true (omega arith) i.0,
+      λ p h. word_more (upto n p) (c.args.w * 64) c.loop-b.b c.loop-b.word c.test.result c.loop-b-test.true (omega arith)
+          (h k _ below c.test.ensures ∙ sym (upto_in n p k below)) (i.1 p h),
+    )

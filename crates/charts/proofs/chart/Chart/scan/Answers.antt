@@ -3,13 +3,8 @@ use Rattle.charts.proofs.WatchSteps.{scans}
 use Rattle.charts.proofs.LedCalls.{scans as scans_led}
 use Rattle.charts.proofs.chart.Chart.scan.Goals as goal
 
-pub returns : goal.returns
-returns c =
-    let s = c.react.ensures.stays in
-    let e = c.react.ensures.reacts in
-    record {
-      scans = e;
-      watches = scans c.args.self.now c.react.new.self s.0 s.1 s.2 s.3 s.4 c.args.letter (omega arith) c.react.result e;
-      led = scans_led c.args.self.now c.react.new.self s.0 s.1 s.2 s.3 s.4 c.args.letter (omega arith) c.react.result e;
-      stays = s;
-    }
+pub returns-clause-watches : goal.returns-clause-watches
+returns-clause-watches c = let e = c.react.ensures in scans c.args.self.now c.react.new.self e.stays c.args.letter (omega arith) c.react.result e.reacts
+
+pub returns-clause-led : goal.returns-clause-led
+returns-clause-led c = let e = c.react.ensures in scans_led c.args.self.now c.react.new.self e.stays c.args.letter (omega arith) c.react.result e.reacts
