@@ -81,24 +81,3 @@ two_first nodes j op gs f g b =
     let l = add_le (binary_formula op f g) (added (added gs f) g) in
     let m = added_le g (added gs f) in
     (b.0, subst (λ (x : List Formula). 256 < length x) (sym (added_two op gs f g)) (omega (arith, b.1)))
-
--- ---- the same for an operand that is known by an equation
-
-pub next_at_some : (nodes : List Node) (i : ℕ) (a r : Option ℕ) (nodes' : List Node) → a ≡ Some i → Interning nodes (N.Next i) r nodes'
-    → (gs : List Formula) (f : Formula) → Outcome gs f a nodes → Outcome gs (next f) r nodes'
-next_at_some nodes i a r nodes' e k gs f o = next_some nodes i r nodes' k gs f (subst (λ (x : Option ℕ). Outcome gs f x nodes) e o)
-
-pub next_at_none : (nodes : List Node) (a : Option ℕ) → a ≡ None → (gs : List Formula) (f : Formula) → Outcome gs f a nodes → Outcome gs (next f) None nodes
-next_at_none nodes a e gs f o = next_none nodes gs f (subst (λ (x : Option ℕ). Outcome gs f x nodes) e o)
-
-pub two_at_some : (nodes : List Node) (i j : ℕ) (a b : Option ℕ) (op : Binary) (node : Node) (r : Option ℕ) (nodes' : List Node) → a ≡ Some i → b ≡ Some j → node ≡ binary_node op i j → Interning nodes node r nodes'
-    → (gs : List Formula) (f g : Formula) → Both gs f g a b nodes → Outcome gs (binary_formula op f g) r nodes'
-two_at_some nodes i j a b op node r nodes' p q n k gs f g o =
-    two_some nodes i j op node r nodes' n k gs f g (subst (λ (x : Option ℕ). Both gs f g (Some i) x nodes) q (subst (λ (x : Option ℕ). Both gs f g x b nodes) p o))
-
-pub two_at_second : (nodes : List Node) (i : ℕ) (a b : Option ℕ) (op : Binary) → a ≡ Some i → b ≡ None → (gs : List Formula) (f g : Formula) → Both gs f g a b nodes → Outcome gs (binary_formula op f g) None nodes
-two_at_second nodes i a b op p q gs f g o =
-    two_second nodes i op gs f g (subst (λ (x : Option ℕ). Both gs f g (Some i) x nodes) q (subst (λ (x : Option ℕ). Both gs f g x b nodes) p o))
-
-pub two_at_first : (nodes : List Node) (a b : Option ℕ) (op : Binary) → a ≡ None → (gs : List Formula) (f g : Formula) → Both gs f g a b nodes → Outcome gs (binary_formula op f g) None nodes
-two_at_first nodes a b op p gs f g o = two_first nodes b op gs f g (subst (λ (x : Option ℕ). Both gs f g x b nodes) p o)

@@ -52,8 +52,8 @@ module _ (ns : List (List ℕ)) (full : Bool) (gs : List Formula) (text : List �
   pub reads_err : (nodes : List Node) (r : Result ℕ SheetFault) (y : SheetFault) → r ≡ Err y → judged ns full gs text ≡ Err y → ReadsBreach ns full gs text nodes r
   reads_err nodes r y e p = subst (ReadsBreach ns full gs text nodes) (sym e) p
 
-  pub reads_rule : (nodes : List Node) (r : Result ℕ SheetFault) (y : SheetFault) (e : RuleFault) → r ≡ Err y → y ≡ S.Rule e → parse ns (length text) 32 text ≡ Err e → ReadsBreach ns full gs text nodes r
-  reads_rule nodes r y e q z p = reads_err nodes r (S.Rule e) (q ∙ ap Err z) (judged_err ns full gs text e p)
+  pub reads_rule : (nodes : List Node) (r : Result ℕ SheetFault) (e : RuleFault) → r ≡ Err (S.Rule e) → parse ns (length text) 32 text ≡ Err e → ReadsBreach ns full gs text nodes r
+  reads_rule nodes r e q p = reads_err nodes r (S.Rule e) q (judged_err ns full gs text e p)
 
 pub room_err : (full : Bool) (nodes : List Node) (r : Result ℕ SheetFault) (y : SheetFault) → r ≡ Err y → HasRoom full nodes r
 room_err full nodes r y e = subst (HasRoom full nodes) (sym e) tt

@@ -108,32 +108,32 @@ read_err : (pol : Rule → Formula) (ns : List (List ℕ)) (total d : ℕ) (w : 
     → r ≡ Err y → parse ns total d w ≡ Err y → Reads pol ns total d w gs nodes r
 read_err pol ns total d w gs nodes r y e p = subst (Reads pol ns total d w gs nodes) (sym e) p
 
-pub err_head : (pol : Rule → Formula) (ns : List (List ℕ)) (total d : ℕ) (w : List ℕ) (gs : List Formula) (nodes : List Node) (r : Result (Option ℕ × Bor (List ℕ)) RuleFault) (y z : RuleFault)
-    → r ≡ Err y → y ≡ z → heads ns total d w ≡ Err z → Reads pol ns total d w gs nodes r
-err_head pol ns total d w gs nodes r y z e f h = read_err pol ns total d w gs nodes r z (e ∙ ap Err f) (err_read ns total d w z h)
+pub err_head : (pol : Rule → Formula) (ns : List (List ℕ)) (total d : ℕ) (w : List ℕ) (gs : List Formula) (nodes : List Node) (r : Result (Option ℕ × Bor (List ℕ)) RuleFault) (z : RuleFault)
+    → r ≡ Err z → heads ns total d w ≡ Err z → Reads pol ns total d w gs nodes r
+err_head pol ns total d w gs nodes r z e h = read_err pol ns total d w gs nodes r z e (err_read ns total d w z h)
 
-pub err_one : (pol : Rule → Formula) (ns : List (List ℕ)) (total d : ℕ) (w a : List ℕ) (o : Unary) (gs : List Formula) (nodes : List Node) (r : Result (Option ℕ × Bor (List ℕ)) RuleFault) (y z : RuleFault)
-    → 0 < d → heads ns total d w ≡ Ok (One o, a) → r ≡ Err y → y ≡ z → parse ns total (d - 1) a ≡ Err z → Reads pol ns total d w gs nodes r
-err_one pol ns total d w a o gs nodes r y z b h e f p = read_err pol ns total d w gs nodes r z (e ∙ ap Err f) (one_read ns total d w a o _ b h p)
+pub err_one : (pol : Rule → Formula) (ns : List (List ℕ)) (total d : ℕ) (w a : List ℕ) (o : Unary) (gs : List Formula) (nodes : List Node) (r : Result (Option ℕ × Bor (List ℕ)) RuleFault) (z : RuleFault)
+    → 0 < d → heads ns total d w ≡ Ok (One o, a) → r ≡ Err z → parse ns total (d - 1) a ≡ Err z → Reads pol ns total d w gs nodes r
+err_one pol ns total d w a o gs nodes r z b h e p = read_err pol ns total d w gs nodes r z e (one_read ns total d w a o _ b h p)
 
-pub err_unit : (s : Sign) (l : Leaf) (ns : List (List ℕ)) (total d : ℕ) (w a : List ℕ) (o : Unary) (gs : List Formula) (nodes : List Node) (r : Result (Option ℕ × Bor (List ℕ)) RuleFault) (y z : RuleFault)
+pub err_unit : (s : Sign) (l : Leaf) (ns : List (List ℕ)) (total d : ℕ) (w a : List ℕ) (o : Unary) (gs : List Formula) (nodes : List Node) (r : Result (Option ℕ × Bor (List ℕ)) RuleFault) (z : RuleFault)
     (node : Node) (n0 n1 : List Node) (k : Option ℕ) → node ≡ leaf_node s l → Interning n0 node k n1 → Means n0 gs
-    → 0 < d → heads ns total d w ≡ Ok (One o, a) → r ≡ Err y → y ≡ z → ((hs : List Formula) → Means n1 hs → parse ns total (d - 1) a ≡ Err z) → Reads (reading_of s) ns total d w gs nodes r
-err_unit s l ns total d w a o gs nodes r y z node n0 n1 k i kept m b h e f p =
+    → 0 < d → heads ns total d w ≡ Ok (One o, a) → r ≡ Err z → ((hs : List Formula) → Means n1 hs → parse ns total (d - 1) a ≡ Err z) → Reads (reading_of s) ns total d w gs nodes r
+err_unit s l ns total d w a o gs nodes r z node n0 n1 k i kept m b h e p =
     let g = some_means gs (reading_of s (leaf l)) k n1 (leaf_outcome s l node n0 n1 k i kept gs m) in
-    err_one (reading_of s) ns total d w a o gs nodes r y z b h e f (p g.0 g.1)
+    err_one (reading_of s) ns total d w a o gs nodes r z b h e (p g.0 g.1)
 
-pub err_first : (pol : Rule → Formula) (ns : List (List ℕ)) (total d : ℕ) (w a : List ℕ) (o : Binary) (gs : List Formula) (nodes : List Node) (r : Result (Option ℕ × Bor (List ℕ)) RuleFault) (y z : RuleFault)
-    → 0 < d → heads ns total d w ≡ Ok (Two o, a) → r ≡ Err y → y ≡ z → parse ns total (d - 1) a ≡ Err z → Reads pol ns total d w gs nodes r
-err_first pol ns total d w a o gs nodes r y z b h e f p = read_err pol ns total d w gs nodes r z (e ∙ ap Err f) (first_read ns total d w a o _ b h p)
+pub err_first : (pol : Rule → Formula) (ns : List (List ℕ)) (total d : ℕ) (w a : List ℕ) (o : Binary) (gs : List Formula) (nodes : List Node) (r : Result (Option ℕ × Bor (List ℕ)) RuleFault) (z : RuleFault)
+    → 0 < d → heads ns total d w ≡ Ok (Two o, a) → r ≡ Err z → parse ns total (d - 1) a ≡ Err z → Reads pol ns total d w gs nodes r
+err_first pol ns total d w a o gs nodes r z b h e p = read_err pol ns total d w gs nodes r z e (first_read ns total d w a o _ b h p)
 
-pub err_second : (pol fst : Rule → Formula) (ns : List (List ℕ)) (total d : ℕ) (w a m n : List ℕ) (o : Binary) (gs : List Formula) (nodes : List Node) (r : Result (Option ℕ × Bor (List ℕ)) RuleFault) (y z : RuleFault)
+pub err_second : (pol fst : Rule → Formula) (ns : List (List ℕ)) (total d : ℕ) (w a m n : List ℕ) (o : Binary) (gs : List Formula) (nodes : List Node) (r : Result (Option ℕ × Bor (List ℕ)) RuleFault) (z : RuleFault)
     (n1 : List Node) (k : Option ℕ)
-    → 0 < d → heads ns total d w ≡ Ok (Two o, a) → ReadOk fst ns total (d - 1) a gs n1 k m → n ≡ drop 1 m → r ≡ Err y → y ≡ z → ((hs : List Formula) → Means n1 hs → parse ns total (d - 1) n ≡ Err z)
+    → 0 < d → heads ns total d w ≡ Ok (Two o, a) → ReadOk fst ns total (d - 1) a gs n1 k m → n ≡ drop 1 m → r ≡ Err z → ((hs : List Formula) → Means n1 hs → parse ns total (d - 1) n ≡ Err z)
     → Reads pol ns total d w gs nodes r
-err_second pol fst ns total d w a m n o gs nodes r y z n1 k b h q s e f p =
+err_second pol fst ns total d w a m n o gs nodes r z n1 k b h q s e p =
     let g = some_means gs (fst q.0) k n1 q.2 in
-    read_err pol ns total d w gs nodes r z (e ∙ ap Err f) (second_read ns total d w a m o q.0 _ b h q.1 (ap (parse ns total (d - 1)) (sym s) ∙ p g.0 g.1))
+    read_err pol ns total d w gs nodes r z e (second_read ns total d w a m o q.0 _ b h q.1 (ap (parse ns total (d - 1)) (sym s) ∙ p g.0 g.1))
 
 -- ---- what is read
 

@@ -1,18 +1,18 @@
 use Rattle.std.proofs.Common.{◌≡◌, ◌<◌, length, Err, sym, ap, ◌∙◌, rules, true-eqb, false-eqb}
-use Rattle.std.proofs.lemmas.Result.{err_from_is_err_and}
 use Rattle.formulas.specs.Marks.{ManyKept}
+use Rattle.meaning.specs.declared.refusals.SheetFault.TheVariants.{Rule}
 use Rattle.fixed.proofs.Held.{held_fits}
 use Rattle.rules.specs.Kept.{BreachAt}
 use Rattle.rules.specs.Stored.{nodes_held}
-use Rattle.rules.proofs.Faults.{was_none}
+use Rattle.rules.proofs.Faults.{passed, was_none}
 use Rattle.rules.proofs.OfKept.{store_topological, over_kept, within_kept, not_over}
 use Rattle.rules.proofs.OfEntering.{exit_follow, exit_full, exit_over, exit_kept, exit_ok, reads_err, reads_rule}
 use Rattle.rules.proofs.entering.read_breach.Goals as goal
 
 pub returns-in_err-number-clause-reads : goal.returns-in_err-number-clause-reads
 returns-in_err-number-clause-reads c =
-    let p = err_from_is_err_and c.from_residual.result c.from_residual.ensures.1 in
-    λ gs m. reads_rule _ _ gs _ _ _ _ _ p.1 p.2 (rw (c.new-reader.ensures.names, c.new-reader.ensures.total) at (c.in_err-number.ensures.reads gs m))
+    let p = passed _ (Rule c.in_err-number.field-0.0) c.from_residual.ensures.1 in
+    λ gs m. reads_rule _ _ gs _ _ _ _ p (rw (c.new-reader.ensures.names, c.new-reader.ensures.total) at (c.in_err-number.ensures.reads gs m))
 
 pub returns-then-not-is_empty-clause-reads : goal.returns-then-not-is_empty-clause-reads
 returns-then-not-is_empty-clause-reads c = λ gs m. exit_follow _ _ gs _ _ _ _ _ (rw (c.new-reader.ensures.names, c.new-reader.ensures.total) at (c.in_ok-number.ensures.reads gs m)) (false-eqb _ 0 c.if-not-is_empty.ensures) (rw c.new-reader.ensures.total at c.place-place.ensures)
@@ -22,19 +22,19 @@ returns-then-full-clause-reads c = λ gs m. exit_full _ _ gs _ _ _ _ (rw (c.new-
 
 pub returns-in_err-root-clause-reads : goal.returns-in_err-root-clause-reads
 returns-in_err-root-clause-reads c =
-    let p = err_from_is_err_and c.from_residual-in_err-root.result c.from_residual-in_err-root.ensures.1 in
-    let n = was_none c.in_ok-number.number _ _ (sym c.in_err-root.ensures.value) in
-    λ gs m. reads_err _ _ gs _ _ _ _ (p.1 ∙ ap Err (p.2 ∙ n.1)) (exit_over _ _ gs _ _ _ _ (rw (c.new-reader.ensures.names, c.new-reader.ensures.total) at (c.in_ok-number.ensures.reads gs m)) (true-eqb _ 0 c.if-not-is_empty.ensures) n.0)
+    let p = passed _ c.in_err-root.field-0.0 c.from_residual-in_err-root.ensures.1 in
+    let n = was_none c.in_ok-number.number _ _ c.in_err-root.ensures.value in
+    λ gs m. reads_err _ _ gs _ _ _ _ (p ∙ ap Err n.1) (exit_over _ _ gs _ _ _ _ (rw (c.new-reader.ensures.names, c.new-reader.ensures.total) at (c.in_ok-number.ensures.reads gs m)) (true-eqb _ 0 c.if-not-is_empty.ensures) n.0)
 
 pub returns-in_err-ok_or-clause-reads : goal.returns-in_err-ok_or-clause-reads
 returns-in_err-ok_or-clause-reads c =
-    let p = err_from_is_err_and c.from_residual-in_err-ok_or.result c.from_residual-in_err-ok_or.ensures.1 in
-    let n = was_none c.breach.result _ _ (sym c.in_err-ok_or.ensures.value) in
+    let p = passed _ c.in_err-ok_or.field-0.0 c.from_residual-in_err-ok_or.ensures.1 in
+    let n = was_none c.breach.result _ _ c.in_err-ok_or.ensures.value in
     let s = c.read.new.store in
     let none = n.0 in
     let many : ManyKept (nodes_held s) c.in_ok-root.root = search rules in
     let below : c.in_ok-root.root < length (nodes_held s) = search rules in
-    λ gs m. reads_err _ _ gs _ _ _ _ (p.1 ∙ ap Err (p.2 ∙ n.1)) (exit_kept _ _ gs _ _ _ _ _ (rw (c.new-reader.ensures.names, c.new-reader.ensures.total) at (c.in_ok-number.ensures.reads gs m)) (true-eqb _ 0 c.if-not-is_empty.ensures) c.in_ok-root.ensures.ok_part c.if-full.false (held_fits s.nodes)
+    λ gs m. reads_err _ _ gs _ _ _ _ (p ∙ ap Err n.1) (exit_kept _ _ gs _ _ _ _ _ (rw (c.new-reader.ensures.names, c.new-reader.ensures.total) at (c.in_ok-number.ensures.reads gs m)) (true-eqb _ 0 c.if-not-is_empty.ensures) c.in_ok-root.ensures.ok_part c.if-full.false (held_fits s.nodes)
     (λ hs h. over_kept (nodes_held s) hs (store_topological s) h _ below many))
 
 pub returns-clause-room : goal.returns-clause-room

@@ -1,5 +1,4 @@
 use Rattle.std.proofs.Common.{◌≡◌, ℕ, ◌<◌, leb, List, [], ◌∷◌, ◌++◌, length, get_or, Ok, Err, sym, ap, ◌∙◌, subst, arith}
-use Rattle.std.proofs.lemmas.Result.{err_from_is_err_and}
 use Rattle.logic.specs.Formula.{Formula}
 use Rattle.meaning.specs.Bytes.{Text}
 use Rattle.texts.specs.Judged.{judged}
@@ -11,6 +10,7 @@ use Rattle.rules.specs.Kept.{FewKept}
 use Rattle.rules.specs.Led.{SheetStands}
 use Rattle.rules.specs.Stands.{PartsStand, SomeRules}
 use Rattle.rules.specs.Stored.{nodes_held, Holds}
+use Rattle.rules.proofs.Faults.{passed}
 use Rattle.rules.proofs.OfKept.{store_topological, few_kept_stays}
 use Rattle.rules.proofs.OfLed.{accepted_answers, accepted_led, refused_answers, refused_led}
 use Rattle.rules.proofs.OfModel.{one_more_rule, some_rules_more, pushed_roots, full_is}
@@ -51,13 +51,11 @@ judging c gs m = rw (← full_is (length (held c.args.self.now.roots)) c.is_full
 
 pub returns-in_err-root-clause-answers : goal.returns-in_err-root-clause-answers
 returns-in_err-root-clause-answers c =
-    let p = err_from_is_err_and c.from_residual.result c.from_residual.ensures.1 in
-    refused_answers c.args.self.now _ (λ ns ts h. h) c.args.text.now _ _ (p.1 ∙ ap Err p.2) (judging c)
+    refused_answers c.args.self.now _ (λ ns ts h. h) c.args.text.now _ _ (passed _ c.in_err-root.field-0.0 c.from_residual.ensures.1) (judging c)
 
 pub returns-in_err-root-clause-led : goal.returns-in_err-root-clause-led
 returns-in_err-root-clause-led c =
-    let p = err_from_is_err_and c.from_residual.result c.from_residual.ensures.1 in
-    refused_led c.args.self.now c.args.self.now (λ ns ts h. h) c.args.text.now _ _ (p.1 ∙ ap Err p.2) (judging c)
+    refused_led c.args.self.now c.args.self.now (λ ns ts h. h) c.args.text.now _ _ (passed _ c.in_err-root.field-0.0 c.from_residual.ensures.1) (judging c)
 
 pub returns-clause-enters : goal.returns-clause-enters
 returns-clause-enters c = λ ns fs st. let e = enters (goal.at.returns-clause-enters c).In_ok-rule ns fs (by_parts _ ns fs st) in (e.0, e.1, e.2, of_parts _ ns _ e.3)

@@ -1,11 +1,10 @@
 use Rattle.std.proofs.Common.{[], Ok, Err, refl, sym, ap, ◌∙◌, subst, MatchOption}
-use Rattle.std.proofs.lemmas.Result.{err_from_is_err_and}
 use Rattle.meaning.specs.Names.{names_of}
 use Rattle.texts.proofs.OfFit.{fit_text, unfit_text}
 use Rattle.rules.specs.Model.{Stands}
 use Rattle.rules.specs.Led.{SheetIs}
 use Rattle.rules.specs.Opening.{Opens}
-use Rattle.rules.proofs.Faults.{was_none}
+use Rattle.rules.proofs.Faults.{passed, was_none}
 use Rattle.rules.proofs.OfStands.{by_parts}
 use Rattle.rules.proofs.OfLed.{blank_is, refused_opening, opening_led}
 use Rattle.rules.proofs.sheet.Sheet.open.Goals as goal
@@ -22,7 +21,6 @@ returns c =
 pub returns-in_err-names : goal.returns-in_err-names
 returns-in_err-names c =
     let t = c.args.text.now in
-    let p = err_from_is_err_and c.from_residual.result c.from_residual.ensures.1 in
-    let n = was_none c.read_names.result _ _ (sym c.in_err-names.ensures.value) in
-    let o = refused_opening c.args.self.now t _ _ p.1 (unfit_text t (subst (Opens [] t) n.0 c.read_names.ensures)) in
+    let n = was_none c.read_names.result _ _ c.in_err-names.ensures.value in
+    let o = refused_opening c.args.self.now t _ _ (passed _ c.in_err-names.field-0.0 c.from_residual.ensures.1) (unfit_text t (subst (Opens [] t) n.0 c.read_names.ensures)) in
     record { answer = o.0; opens = o.1; is = o.2; led = opening_led c.args.self.now c.args.self.now t _ o.0 o.2 }

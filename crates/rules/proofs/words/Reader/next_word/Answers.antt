@@ -1,8 +1,7 @@
 use Rattle.std.proofs.Common.{◌≡◌, Some, Ok, Err, sym, ap, ◌∙◌, arith, true-eqb, false-eqb}
-use Rattle.std.proofs.lemmas.Result.{err_from_is_err_and}
 use Rattle.texts.proofs.OfWords.{heads_none, heads_some, none_at, zero_at}
 use Rattle.rules.specs.Names.{names_held}
-use Rattle.rules.proofs.Faults.{was_none}
+use Rattle.rules.proofs.Faults.{passed, was_none}
 use Rattle.rules.proofs.OfWords.{heads_err, operator_deep, operator_at, operator_above}
 use Rattle.texts.specs.Words.{heads, allowed}
 use Rattle.rules.proofs.words.Reader.next_word.Goals as goal
@@ -18,9 +17,8 @@ returns-then-is_empty-clause-is c = heads_none _ _ _ _ (true-eqb _ 0 c.if-is_emp
 
 pub returns-in_err-word-clause-is : goal.returns-in_err-word-clause-is
 returns-in_err-word-clause-is c =
-    let p = err_from_is_err_and c.from_residual.result c.from_residual.ensures.1 in
-    let n = was_none c.word_of.result _ _ (sym c.in_err-word.ensures.value) in
-    heads_err _ _ _ _ c.from_residual.result _ (p.1 ∙ ap Err (p.2 ∙ n.1)) (none_at _ _ _ _ (found (goal.at.returns-in_err-word-clause-is c).After-word_of) n.0)
+    let n = was_none c.word_of.result _ _ c.in_err-word.ensures.value in
+    heads_err _ _ _ _ c.from_residual.result _ (passed _ c.in_err-word.field-0.0 c.from_residual.ensures.1 ∙ ap Err n.1) (none_at _ _ _ _ (found (goal.at.returns-in_err-word-clause-is c).After-word_of) n.0)
 
 pub returns-in-Zero-clause-is : goal.returns-in-Zero-clause-is
 returns-in-Zero-clause-is c =
