@@ -1,5 +1,5 @@
 -- The exits of reading a rule text into the store.
-use Rattle.std.proofs.Common.{◌≡◌, ℕ, ◌-◌, ◌<◌, ◌≤◌, Bool, true, false, List, length, get_or, Some, None, Ok, Err, Option, Result, sym, ap, ◌∙◌, subst, arith}
+use Rattle.std.proofs.Common.{◌≡◌, ℕ, ◌-◌, ◌<◌, ◌≤◌, Bool, true, false, List, length, get_or, Some, None, Ok, Err, Option, Result, sym, ◌∙◌, subst, arith}
 use Rattle.logic.specs.Formula.{Formula, tru}
 use Rattle.logic.specs.Labels.{kept}
 use Rattle.logic.specs.Rule.{negated}

@@ -1,5 +1,5 @@
 -- Nodes and the formulas that they mean.
-use Rattle.std.proofs.Common.{◌≡◌, ℕ, zero, suc, ◌+◌, ◌<◌, ◌≤◌, ◌⊎◌, List, [], ◌∷◌, ◌++◌, length, get_or, Some, None, Option, sym, refl, ap, ◌∙◌, subst, inl, inr, arith, length-append, MatchOption}
+use Rattle.std.proofs.Common.{◌≡◌, ℕ, zero, suc, ◌<◌, ◌≤◌, ◌⊎◌, List, [], ◌∷◌, ◌++◌, length, get_or, Some, None, Option, sym, refl, ap, ◌∙◌, subst, inl, inr, arith, length-append, MatchOption}
 use lib.ListN.{get_or-append}
 use Rattle.fixed.specs.declared.FixedList.{FixedList}
 use Rattle.fixed.specs.Held.{held}
@@ -71,9 +71,12 @@ made_of_more gs hs (Release a b) h = let p = get_or-append gs hs tru a (omega ar
 
 -- ---- one more
 
+pub front_is : {A : Type 0} (xs : List A) (x : A) (ys : List A) (d : A) → get_or (xs ++ (x ∷ ys)) (length xs) d ≡ x
+front_is [] x ys d = refl
+front_is (y ∷ xs) x ys d = front_is xs x ys d
+
 pub last_is : {A : Type 0} (xs : List A) (x d : A) → get_or (xs ++ (x ∷ [])) (length xs) d ≡ x
-last_is [] x d = refl
-last_is (y ∷ xs) x d = last_is xs x d
+last_is xs x d = front_is xs x [] d
 
 -- what holds of each and of the next holds of all of them
 pub push_each : {A : Type 0} (P : ℕ → A → Type 0) (xs : List A) (x d : A) → ((i : ℕ) → i < length xs → P i (get_or xs i d)) → P (length xs) x → (i : ℕ) → i < length (xs ++ (x ∷ [])) → P i (get_or (xs ++ (x ∷ [])) i d)

@@ -4,7 +4,6 @@ ghost use Rattle.rules.specs.Names.{names_held};
 ghost use Rattle.texts.specs.Fit.{Fit};
 ghost use Rattle.rules.specs.Opening.{AllLower, NameIs, Joins, Opens};
 
-use crate::names::look::length_to;
 use crate::names::{Name, Names};
 use crate::words::fixed_word;
 use fixed::FixedList;
@@ -54,21 +53,13 @@ impl Names {
     }
 }
 
-// `names` and those of `rest`.
-fn read_more(names: &Names, rest: &[u8]) -> Option<Names>
-    ensures { Fit (names_held names.now) → Opens (names_held names.now) rest.now result }
-{
-    let (word, after) = rest.split_at(length_to(rest, b','));
-    let more = names.with(word)?;
-    match after {
-        [] => Some(more),
-        [_, tail @ ..] => read_more(&more, tail),
-    }
-}
-
 // The names of a text.
 pub fn read_names(text: &[u8]) -> Option<Names>
     ensures { Opens [] text.now result }
 {
-    read_more(&Names::none(), text)
+    let mut names = Names::none();
+    for word in text.split(|b| *b == b',') {
+        names = names.with(word)?;
+    }
+    Some(names)
 }

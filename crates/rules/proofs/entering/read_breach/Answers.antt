@@ -1,4 +1,4 @@
-use Rattle.std.proofs.Common.{◌≡◌, ◌<◌, length, Err, sym, ap, ◌∙◌, rules, true-eqb, false-eqb}
+use Rattle.std.proofs.Common.{◌<◌, length, Err, ap, ◌∙◌, rules, true-eqb, false-eqb}
 use Rattle.formulas.specs.Marks.{ManyKept}
 use Rattle.meaning.specs.declared.refusals.SheetFault.TheVariants.{Rule}
 use Rattle.fixed.proofs.Held.{held_fits}

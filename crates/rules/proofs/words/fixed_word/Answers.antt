@@ -1,4 +1,4 @@
-use Rattle.std.proofs.Common.{◌≡◌, ◌∙◌, Some, List, codes, sym, rules}
+use Rattle.std.proofs.Common.{◌≡◌, ◌∙◌, rules}
 use Rattle.texts.specs.Words.{fixed_word}
 use Rattle.rules.proofs.OfWords.{not_fixed, not_text}
 use Rattle.rules.proofs.words.fixed_word.Goals as goal

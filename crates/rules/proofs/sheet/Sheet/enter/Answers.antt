@@ -1,4 +1,4 @@
-use Rattle.std.proofs.Common.{◌≡◌, ℕ, ◌<◌, leb, List, [], ◌∷◌, ◌++◌, length, get_or, Ok, Err, sym, ap, ◌∙◌, subst, arith}
+use Rattle.std.proofs.Common.{◌≡◌, ℕ, ◌<◌, leb, List, [], ◌∷◌, ◌++◌, length, get_or, Ok, Err, sym, ◌∙◌, subst, arith}
 use Rattle.logic.specs.Formula.{Formula}
 use Rattle.meaning.specs.Bytes.{Text}
 use Rattle.texts.specs.Judged.{judged}

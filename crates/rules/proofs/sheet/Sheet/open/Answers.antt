@@ -1,4 +1,4 @@
-use Rattle.std.proofs.Common.{[], Ok, Err, refl, sym, ap, ◌∙◌, subst, MatchOption}
+use Rattle.std.proofs.Common.{[], Ok, subst}
 use Rattle.meaning.specs.Names.{names_of}
 use Rattle.texts.proofs.OfFit.{fit_text, unfit_text}
 use Rattle.rules.specs.Model.{Stands}
