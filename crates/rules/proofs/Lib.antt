@@ -1,5 +1,7 @@
+pub mod Faults
 pub mod OfNames
 pub mod OfOpening
+pub mod OfWords
 pub mod OfNodes
 pub mod OfBuilt
 pub mod OfReading

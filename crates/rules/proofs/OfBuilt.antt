@@ -40,65 +40,44 @@ reach_two Until i j = refl
 reach_two Release i j = refl
 
 -- what keeping h over hs answers is what reading answers, where h is what is added last
-pub interned_outcome : (gs hs : List Formula) (h : Formula) (r : Option ℕ) (nodes : List Node) (count : ℕ) → added gs h ≡ add h hs → Interned hs h r nodes count → Outcome gs h r nodes count
-interned_outcome gs hs h (Some k) nodes count e p =
-    (subst (λ (x : List Formula). Means nodes count x) (sym e) p.0, subst (λ (x : List Formula). StandsAt x h k) (sym e) p.1)
-interned_outcome gs hs h None nodes count e p = ((hs, p.0), subst (λ (x : List Formula). 256 < length x) (sym e) p.1)
+pub interned_outcome : (gs hs : List Formula) (h : Formula) (r : Option ℕ) (nodes : List Node) → added gs h ≡ add h hs → Interned hs h r nodes → Outcome gs h r nodes
+interned_outcome gs hs h (Some k) nodes e p =
+    (subst (λ (x : List Formula). Means nodes x) (sym e) p.0, subst (λ (x : List Formula). StandsAt x h k) (sym e) p.1)
+interned_outcome gs hs h None nodes e p = ((hs, p.0), subst (λ (x : List Formula). 256 < length x) (sym e) p.1)
 
-abbrev pub Interning : List Node → ℕ → Node → Option ℕ → List Node → ℕ → Type 0
-Interning nodes count node r nodes' count' = (gs : List Formula) → Means nodes count gs → reach node ≤ count → Interned gs (made_of gs node) r nodes' count'
+abbrev pub Interning : List Node → Node → Option ℕ → List Node → Type 0
+Interning nodes node r nodes' = (gs : List Formula) → Means nodes gs → reach node ≤ length nodes → Interned gs (made_of gs node) r nodes'
 
-pub next_some : (nodes : List Node) (count i : ℕ) (r : Option ℕ) (nodes' : List Node) (count' : ℕ) → Interning nodes count (N.Next i) r nodes' count'
-    → (gs : List Formula) (f : Formula) → Outcome gs f (Some i) nodes count → Outcome gs (next f) r nodes' count'
-next_some nodes count i r nodes' count' k gs f o =
+pub next_some : (nodes : List Node) (i : ℕ) (r : Option ℕ) (nodes' : List Node) → Interning nodes (N.Next i) r nodes'
+    → (gs : List Formula) (f : Formula) → Outcome gs f (Some i) nodes → Outcome gs (next f) r nodes'
+next_some nodes i r nodes' k gs f o =
     let s = o.0.size in
     let q = k (added gs f) o.0 (omega (arith, o.1.0)) in
-    interned_outcome gs (added gs f) (next f) r nodes' count' (added_next gs f) (subst (λ (x : Formula). Interned (added gs f) (next x) r nodes' count') o.1.1 q)
+    interned_outcome gs (added gs f) (next f) r nodes' (added_next gs f) (subst (λ (x : Formula). Interned (added gs f) (next x) r nodes') o.1.1 q)
 
-pub next_none : (nodes : List Node) (count : ℕ) (gs : List Formula) (f : Formula) → Outcome gs f None nodes count → Outcome gs (next f) None nodes count
-next_none nodes count gs f o =
+pub next_none : (nodes : List Node) (gs : List Formula) (f : Formula) → Outcome gs f None nodes → Outcome gs (next f) None nodes
+next_none nodes gs f o =
     let l = add_le (next f) (added gs f) in
     (o.0, subst (λ (x : List Formula). 256 < length x) (sym (added_next gs f)) (omega (arith, o.1)))
 
-pub two_some : (nodes : List Node) (count i j : ℕ) (op : Binary) (node : Node) (r : Option ℕ) (nodes' : List Node) (count' : ℕ) → node ≡ binary_node op i j → Interning nodes count node r nodes' count'
-    → (gs : List Formula) (f g : Formula) → Both gs f g (Some i) (Some j) nodes count → Outcome gs (binary_formula op f g) r nodes' count'
-two_some nodes count i j op node r nodes' count' n k gs f g b =
+pub two_some : (nodes : List Node) (i j : ℕ) (op : Binary) (node : Node) (r : Option ℕ) (nodes' : List Node) → node ≡ binary_node op i j → Interning nodes node r nodes'
+    → (gs : List Formula) (f g : Formula) → Both gs f g (Some i) (Some j) nodes → Outcome gs (binary_formula op f g) r nodes'
+two_some nodes i j op node r nodes' n k gs f g b =
     let hs = added (added gs f) g in
     let s = b.1.0.size in
     let a = stands_after f g (added gs f) i b.0 in
     let t = ap reach n ∙ reach_two op i j in
     let q = k hs b.1.0 (omega (arith, a.0, b.1.1.0)) in
     let e : made_of hs node ≡ binary_formula op f g = ap (made_of hs) n ∙ made_of_two op hs i j ∙ ap (λ (x : Formula). binary_formula op x (get_or hs j tru)) a.1 ∙ ap (binary_formula op f) b.1.1.1 in
-    interned_outcome gs hs (binary_formula op f g) r nodes' count' (added_two op gs f g) (subst (λ (x : Formula). Interned hs x r nodes' count') e q)
+    interned_outcome gs hs (binary_formula op f g) r nodes' (added_two op gs f g) (subst (λ (x : Formula). Interned hs x r nodes') e q)
 
-pub two_second : (nodes : List Node) (count i : ℕ) (op : Binary) (gs : List Formula) (f g : Formula) → Both gs f g (Some i) None nodes count → Outcome gs (binary_formula op f g) None nodes count
-two_second nodes count i op gs f g b =
+pub two_second : (nodes : List Node) (i : ℕ) (op : Binary) (gs : List Formula) (f g : Formula) → Both gs f g (Some i) None nodes → Outcome gs (binary_formula op f g) None nodes
+two_second nodes i op gs f g b =
     let l = add_le (binary_formula op f g) (added (added gs f) g) in
     (b.1.0, subst (λ (x : List Formula). 256 < length x) (sym (added_two op gs f g)) (omega (arith, b.1.1)))
 
-pub two_first : (nodes : List Node) (count : ℕ) (j : Option ℕ) (op : Binary) (gs : List Formula) (f g : Formula) → Both gs f g None j nodes count → Outcome gs (binary_formula op f g) None nodes count
-two_first nodes count j op gs f g b =
+pub two_first : (nodes : List Node) (j : Option ℕ) (op : Binary) (gs : List Formula) (f g : Formula) → Both gs f g None j nodes → Outcome gs (binary_formula op f g) None nodes
+two_first nodes j op gs f g b =
     let l = add_le (binary_formula op f g) (added (added gs f) g) in
     let m = added_le g (added gs f) in
     (b.0, subst (λ (x : List Formula). 256 < length x) (sym (added_two op gs f g)) (omega (arith, b.1)))
-
--- ---- the same for an operand that is known by an equation
-
-pub next_at_some : (nodes : List Node) (count i : ℕ) (a r : Option ℕ) (nodes' : List Node) (count' : ℕ) → a ≡ Some i → Interning nodes count (N.Next i) r nodes' count'
-    → (gs : List Formula) (f : Formula) → Outcome gs f a nodes count → Outcome gs (next f) r nodes' count'
-next_at_some nodes count i a r nodes' count' e k gs f o = next_some nodes count i r nodes' count' k gs f (subst (λ (x : Option ℕ). Outcome gs f x nodes count) e o)
-
-pub next_at_none : (nodes : List Node) (count : ℕ) (a : Option ℕ) → a ≡ None → (gs : List Formula) (f : Formula) → Outcome gs f a nodes count → Outcome gs (next f) None nodes count
-next_at_none nodes count a e gs f o = next_none nodes count gs f (subst (λ (x : Option ℕ). Outcome gs f x nodes count) e o)
-
-pub two_at_some : (nodes : List Node) (count i j : ℕ) (a b : Option ℕ) (op : Binary) (node : Node) (r : Option ℕ) (nodes' : List Node) (count' : ℕ) → a ≡ Some i → b ≡ Some j → node ≡ binary_node op i j → Interning nodes count node r nodes' count'
-    → (gs : List Formula) (f g : Formula) → Both gs f g a b nodes count → Outcome gs (binary_formula op f g) r nodes' count'
-two_at_some nodes count i j a b op node r nodes' count' p q n k gs f g o =
-    two_some nodes count i j op node r nodes' count' n k gs f g (subst (λ (x : Option ℕ). Both gs f g (Some i) x nodes count) q (subst (λ (x : Option ℕ). Both gs f g x b nodes count) p o))
-
-pub two_at_second : (nodes : List Node) (count i : ℕ) (a b : Option ℕ) (op : Binary) → a ≡ Some i → b ≡ None → (gs : List Formula) (f g : Formula) → Both gs f g a b nodes count → Outcome gs (binary_formula op f g) None nodes count
-two_at_second nodes count i a b op p q gs f g o =
-    two_second nodes count i op gs f g (subst (λ (x : Option ℕ). Both gs f g (Some i) x nodes count) q (subst (λ (x : Option ℕ). Both gs f g x b nodes count) p o))
-
-pub two_at_first : (nodes : List Node) (count : ℕ) (a b : Option ℕ) (op : Binary) → a ≡ None → (gs : List Formula) (f g : Formula) → Both gs f g a b nodes count → Outcome gs (binary_formula op f g) None nodes count
-two_at_first nodes count a b op p gs f g o = two_first nodes count b op gs f g (subst (λ (x : Option ℕ). Both gs f g x b nodes count) p o)

@@ -1,13 +1,15 @@
 -- Sheets by their names and rules, and as lists of calls left them.
-use Rattle.std.proofs.Common.{◌≡◌, ℕ, Bool, cond, eqb, leb, List, [], ◌∷◌, ◌++◌, length, Ok, Err, Result, sym, refl, ap, ◌∙◌, subst}
+use Rattle.std.proofs.Common.{◌≡◌, ℕ, Bool, false, cond, eqb, leb, List, [], ◌∷◌, ◌++◌, length, Ok, Err, Result, sym, refl, ap, ◌∙◌, subst}
 use mathlib.Core.Logic.{∥∥₁_elim, ∥∥₁_map}
 use native.Mathlib.Nat.{ℕ_set}
 use Rattle.std.proofs.lemmas.Bool.{eq-eqb}
+use Rattle.fixed.specs.Held.{held}
 use Rattle.logic.specs.Formula.{Formula}
 use Rattle.meaning.specs.declared.refusals.NamesFault.{NamesFault}
+use Rattle.meaning.specs.declared.refusals.NamesFault.TheVariants.{Unfit}
 use Rattle.meaning.specs.declared.refusals.SheetFault.{SheetFault}
 use Rattle.meaning.specs.Bytes.{Text}
-use Rattle.meaning.specs.Names.{names_of}
+use Rattle.meaning.specs.Names.{names_of, fit}
 use Rattle.meaning.specs.Entering.{RightEntering}
 use Rattle.meaning.specs.Calls.{History}
 use Rattle.meaning.specs.Histories.{names, rules}
@@ -19,9 +21,8 @@ use Rattle.texts.specs.Entered.{BreachFormulas, numbered}
 use Rattle.texts.proofs.OfEntered.{as_many, breach_formulas_more, judging_answers_rightly, right_of_some}
 use Rattle.rules.specs.declared.sheet.Sheet.{Sheet}
 use Rattle.rules.specs.Names.{names_held}
-use Rattle.rules.specs.Nodes.{Means}
-use Rattle.rules.specs.Model.{Stands, Unchanged, Enters}
-use Rattle.rules.proofs.OfStands.{by_parts}
+use Rattle.rules.specs.Stored.{Holds}
+use Rattle.rules.specs.Model.{Opened}
 use Rattle.rules.specs.Led.{SheetStands, SheetIs, SheetLed, Untouched, OpeningIs, OpeningLed, EnteringIs, EnteringLed}
 
 pub blank_is : (s : Sheet) (ns : List Text) → SheetStands s ns [] → SheetIs ns [] s
@@ -31,7 +32,7 @@ pub untouched_led : (s : Sheet) → SheetStands s [] [] → (h : History) (n : �
 untouched_led s st h n u =
     subst (λ (ns : List Text). SheetIs ns (rules h n) s) (sym u.0) (subst (λ (ts : List Text). SheetIs [] ts s) (sym u.1) (blank_is s [] st))
 
-pub counted : (s : Sheet) (ns ts : List Text) → SheetIs ns ts s → s.rules ≡ length ts
+pub counted : (s : Sheet) (ns ts : List Text) → SheetIs ns ts s → length (held s.roots) ≡ length ts
 counted s ns ts is = ∥∥₁_elim is (ℕ_set _ _) (λ x. sym x.1.count_is ∙ as_many ns ts x.0 x.2)
 
 -- what sheet number n has after a call on itself
@@ -44,6 +45,10 @@ pub opening_led : (s s' : Sheet) (t : Text) (r : Result (Unit {0}) NamesFault) �
 opening_led s s' t (Ok u) right opens h n led =
     (right, subst (λ (ns : List Text). SheetIs ns (cond (eqb n n) [] (rules h n)) s') (sym (itself n (names_of t) (names h n))) (subst (λ (ts : List Text). SheetIs (names_of t) ts s') (sym (itself n [] (rules h n))) opens))
 opening_led s s' t (Err e) right opens h n led = (right, subst (SheetLed h n) (sym opens) led)
+
+-- a refused text changes nothing
+pub refused_opening : (s : Sheet) (t : Text) (r : Result (Unit {0}) NamesFault) (y : NamesFault) → r ≡ Err y → fit t ≡ false → RightOpening t r × Opened s t r s × OpeningIs s t r s
+refused_opening s t r Unfit e f = subst (λ (a : Result (Unit {0}) NamesFault). RightOpening t a × Opened s t a s × OpeningIs s t a s) (sym e) (f, (f, refl), refl)
 
 -- ---- entering
 
@@ -71,25 +76,19 @@ module _ (Before After : List Text → List Formula → Type 0) (fit : (ns : Lis
         (x.0, subst (λ (ts : List Text). Is After (names h k) ts) (sym (itself k (rules h k ++ (t ∷ [])) (rules h k))) x.1)
 
 -- a text that is refused
-module _ (s : Sheet) (t : Text) (r : Result ℕ SheetFault) (y : SheetFault) (refused : r ≡ Err y)
-    (judging : (gs : List Formula) → Means s.store.nodes s.store.count gs → judged (names_held s.names) (leb 16 s.rules) gs t ≡ Err y) where
+module _ (s s' : Sheet) (same : (ns ts : List Text) → SheetIs ns ts s → SheetIs ns ts s') (t : Text) (r : Result ℕ SheetFault) (y : SheetFault) (refused : r ≡ Err y)
+    (judging : (gs : List Formula) → Holds s.store gs → judged (names_held s.names) (leb 16 (length (held s.roots))) gs t ≡ Err y) where
   judged_so : (ns : List Text) (fs : List Formula) → SheetStands s ns fs → judged ns (leb 16 (length fs)) (listed fs) t ≡ Err y
   judged_so ns fs st =
       ap (λ (v : List Text). judged v (leb 16 (length fs)) (listed fs) t) (sym st.named) ∙ ap (λ (v : ℕ). judged (names_held s.names) (leb 16 v) (listed fs) t) st.count_is ∙ judging (listed fs) st.means
 
-  pub refused_unchanged : Unchanged r s s
-  refused_unchanged = subst (λ (a : Result ℕ SheetFault). Unchanged a s s) (sym refused) refl
-
-  pub refused_enters : (ns : List Text) (fs : List Formula) → Stands s ns fs → Enters ns fs t r s
-  refused_enters ns fs st = subst (λ (a : Result ℕ SheetFault). Enters ns fs t a s) (sym refused) (judged_so ns fs (by_parts s ns fs st), st)
-
-  pub refused_answers : (ns ts : List Text) → SheetIs ns ts s → EnteringIs ns ts t r s
-  refused_answers ns ts is = subst (λ (a : Result ℕ SheetFault). EnteringIs ns ts t a s) (sym refused) (
+  pub refused_answers : (ns ts : List Text) → SheetIs ns ts s → EnteringIs ns ts t r s'
+  refused_answers ns ts is = subst (λ (a : Result ℕ SheetFault). EnteringIs ns ts t a s') (sym refused) (
     right_of_some ns ts t (Err y) (∥∥₁_map is (λ x. subst (λ a. RightEntering ns ts t (numbered (length ts) a)) (judged_so ns x.0 x.1) (judging_answers_rightly.right ns x.1.fit ts x.0 t x.2))),
-    is,
+    same ns ts is,
   )
 
-  pub refused_led : (h : History) (n : ℕ) → SheetLed h n s → EnteringLed h n t r s
+  pub refused_led : (h : History) (n : ℕ) → SheetLed h n s → EnteringLed h n t r s'
   refused_led h n led =
-      let x = subst (λ (a : Result ℕ SheetFault). EnteringIs (names h n) (rules h n) t a s) refused (refused_answers (names h n) (rules h n) led) in
-      subst (λ (a : Result ℕ SheetFault). EnteringLed h n t a s) (sym refused) x
+      let x = subst (λ (a : Result ℕ SheetFault). EnteringIs (names h n) (rules h n) t a s') refused (refused_answers (names h n) (rules h n) led) in
+      subst (λ (a : Result ℕ SheetFault). EnteringLed h n t a s') (sym refused) x

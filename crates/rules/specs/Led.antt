@@ -1,5 +1,6 @@
 -- A sheet by its names and rules, and a sheet as a list of calls left it. Assumes nothing.
 use Rattle.std.specs.Prelude.{◌≡◌, ℕ, List, [], ◌∷◌, ◌++◌, Ok, Err, Result}
+use Rattle.fixed.specs.Held.{held}
 use Rattle.logic.specs.Formula.{Formula}
 use Rattle.meaning.specs.declared.refusals.NamesFault.{NamesFault}
 use Rattle.meaning.specs.declared.refusals.SheetFault.{SheetFault}
@@ -12,10 +13,11 @@ use Rattle.meaning.specs.Right.{Right}
 pub use Rattle.texts.specs.Entered.{BreachFormulas}
 use Rattle.rules.specs.declared.sheet.Sheet.{Sheet}
 use Rattle.rules.specs.Stands.{PartsStand}
+use Rattle.rules.specs.Stored.{nodes_held}
 
 -- the parts of the sheet stand for the names ns and the breach formulas fs
 abbrev pub SheetStands : Sheet → List Text → List Formula → Type 0
-SheetStands s ns fs = PartsStand s.names s.store.nodes s.store.count s.roots s.rules ns fs
+SheetStands s ns fs = PartsStand s.names (nodes_held s.store) (held s.roots) ns fs
 
 -- the sheet has the names ns and the rules ts: it stands for their breach formulas
 abbrev pub SheetIs : List Text → List Text → Sheet → Type 0

@@ -2,7 +2,9 @@ pub mod Letters
 pub mod Names
 pub mod Opening
 pub mod Nodes
+pub mod Stored
 pub mod Kept
+pub mod Signs
 pub mod Readings
 pub mod Entering
 pub mod Stands

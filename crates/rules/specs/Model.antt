@@ -1,5 +1,6 @@
 -- What a sheet stands for: names, and the breach formulas of its rules. Assumes nothing.
 use Rattle.std.specs.Prelude.{◌≡◌, ℕ, ◌<◌, ◌≤◌, true, false, List, [], ◌∷◌, ◌++◌, length, Some, None, Ok, Err, Option, Result, nat_le, slice_index, slice_index_or}
+use Rattle.fixed.specs.Held.{held}
 use Rattle.logic.specs.Formula.{Formula, tru}
 use Rattle.formulas.specs.declared.breach.BreachFormula.{BreachFormula}
 use Rattle.meaning.specs.declared.refusals.NamesFault.{NamesFault}
@@ -11,16 +12,16 @@ use Rattle.texts.specs.Judged.{judged}
 use Rattle.texts.specs.Listed.{listed, StandsAt}
 use Rattle.rules.specs.declared.sheet.Sheet.{Sheet}
 use Rattle.rules.specs.Names.{names_held}
-use Rattle.rules.specs.Nodes.{Means}
+use Rattle.rules.specs.Stored.{Holds}
 use Rattle.rules.specs.Kept.{formula_of}
 
 -- a sheet with the names ns and the breach formulas fs: it holds their subformulas, each once, and no other
 pub record Stands (s : Sheet) (ns : List Text) (fs : List Formula) : Type 0 where
   pub named : names_held s.names ≡ ns
   pub fit : Fit ns
-  pub means : Means s.store.nodes s.store.count (listed fs)
-  pub count : length fs ≡ s.rules
-  pub rooted : (i : ℕ) → i < length fs → StandsAt (listed fs) (slice_index_or fs i tru) (slice_index s.roots i)
+  pub means : Holds s.store (listed fs)
+  pub count : length fs ≡ length (held s.roots)
+  pub rooted : (i : ℕ) → i < length fs → StandsAt (listed fs) (slice_index_or fs i tru) (slice_index (held s.roots) i)
 
 -- what entering a text answers, and the sheet after it
 abbrev pub Enters : List Text → List Formula → Text → Result ℕ SheetFault → Sheet → Type 0

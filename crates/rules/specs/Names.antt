@@ -1,8 +1,9 @@
 -- The names that a sheet holds. Assumes nothing.
-use Rattle.std.specs.Prelude.{List, map, take}
+use Rattle.std.specs.Prelude.{List, map}
+use Rattle.fixed.specs.Held.{held}
 use Rattle.meaning.specs.Bytes.{Text}
 use Rattle.rules.specs.declared.names.Names.{Names}
 pub use Rattle.rules.specs.Letters.{letters_of}
 
 abbrev pub names_held : Names → List Text
-names_held ns = map letters_of (take ns.count ns.list)
+names_held ns = map letters_of (held ns.list)

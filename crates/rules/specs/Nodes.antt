@@ -6,33 +6,33 @@ use Rattle.formulas.specs.Nodes.{made_of, reach, signal_of}
 use Rattle.texts.specs.Listed.{add, StandsAt}
 
 -- operands stand before what they are operands of, and signals are among the eight
-abbrev pub OperandsBefore : List Node → ℕ → Type 0
-OperandsBefore nodes count = (i : ℕ) (d : Node) → i < count → reach (slice_index_or nodes i d) ≤ i
+abbrev pub OperandsBefore : List Node → Type 0
+OperandsBefore nodes = (i : ℕ) (d : Node) → i < length nodes → reach (slice_index_or nodes i d) ≤ i
 
-abbrev pub SignalsBelowEight : List Node → ℕ → Type 0
-SignalsBelowEight nodes count = (i : ℕ) (d : Node) → i < count → signal_of (slice_index_or nodes i d) < 8
+abbrev pub SignalsBelowEight : List Node → Type 0
+SignalsBelowEight nodes = (i : ℕ) (d : Node) → i < length nodes → signal_of (slice_index_or nodes i d) < 8
 
 -- a number, if there is one, is below n
 abbrev pub Below : Option ℕ → ℕ → Type 0
 Below (Some k) n = k < n
 Below None n = Unit {0}
 
--- the first `count` nodes are the formulas gs: operands stand before, and each formula once
-pub record Means (nodes : List Node) (count : ℕ) (gs : List Formula) : Type 0 where
-  pub size : length gs ≡ count
-  pub at : (i : ℕ) (d : Node) → i < count → slice_index_or gs i tru ≡ made_of gs (slice_index_or nodes i d)
-  pub before : (i : ℕ) (d : Node) → i < count → reach (slice_index_or nodes i d) ≤ i
-  pub differ : (i j : ℕ) → i < j → j < count → slice_index_or gs i tru ≢ slice_index_or gs j tru
+-- the nodes are the formulas gs: operands stand before, and each formula once
+pub record Means (nodes : List Node) (gs : List Formula) : Type 0 where
+  pub size : length gs ≡ length nodes
+  pub at : (i : ℕ) (d : Node) → i < length nodes → slice_index_or gs i tru ≡ made_of gs (slice_index_or nodes i d)
+  pub before : (i : ℕ) (d : Node) → i < length nodes → reach (slice_index_or nodes i d) ≤ i
+  pub differ : (i j : ℕ) → i < j → j < length nodes → slice_index_or gs i tru ≢ slice_index_or gs j tru
 
--- the first n of xs are the first of ys too, which has m of them
-pub record Longer (xs : List Node) (n : ℕ) (ys : List Node) (m : ℕ) : Type 0 where
-  pub more : n ≤ m
-  pub stays : (k : ℕ) (d : Node) → k < n → slice_index_or ys k d ≡ slice_index_or xs k d
+-- all of xs are the first of ys
+pub record Longer (xs ys : List Node) : Type 0 where
+  pub more : length xs ≤ length ys
+  pub stays : (k : ℕ) (d : Node) → k < length xs → slice_index_or ys k d ≡ slice_index_or xs k d
 
 -- what interning f answers where the nodes mean gs: the number of f, or none where f is one too many
-abbrev pub Interned : List Formula → Formula → Option ℕ → List Node → ℕ → Type 0
-Interned gs f (Some k) nodes count = Means nodes count (add f gs) × StandsAt (add f gs) f k
-Interned gs f None nodes count = Means nodes count gs × (256 < length (add f gs))
+abbrev pub Interned : List Formula → Formula → Option ℕ → List Node → Type 0
+Interned gs f (Some k) nodes = Means nodes (add f gs) × StandsAt (add f gs) f k
+Interned gs f None nodes = Means nodes gs × (256 < length (add f gs))
 
 -- none of the nodes is x; number k is x
 abbrev pub Lacks : List Node → Node → Type 0

@@ -50,19 +50,19 @@ dual_of Until = Release
 dual_of Release = Until
 
 -- what stands in the store after f was read over gs: all of f, and its number; or no number, since there are too many
-abbrev pub Outcome : List Formula → Formula → Option ℕ → List Node → ℕ → Type 0
-Outcome gs f (Some k) nodes count = Means nodes count (added gs f) × StandsAt (added gs f) f k
-Outcome gs f None nodes count = ((hs : List Formula) × Means nodes count hs) × (256 < length (added gs f))
+abbrev pub Outcome : List Formula → Formula → Option ℕ → List Node → Type 0
+Outcome gs f (Some k) nodes = Means nodes (added gs f) × StandsAt (added gs f) f k
+Outcome gs f None nodes = ((hs : List Formula) × Means nodes hs) × (256 < length (added gs f))
 
 -- the same of f and then g
-abbrev pub Both : List Formula → Formula → Formula → Option ℕ → Option ℕ → List Node → ℕ → Type 0
-Both gs f g (Some i) b nodes count = StandsAt (added gs f) f i × Outcome (added gs f) g b nodes count
-Both gs f g None b nodes count = ((hs : List Formula) × Means nodes count hs) × (256 < length (added gs f))
+abbrev pub Both : List Formula → Formula → Formula → Option ℕ → Option ℕ → List Node → Type 0
+Both gs f g (Some i) b nodes = StandsAt (added gs f) f i × Outcome (added gs f) g b nodes
+Both gs f g None b nodes = ((hs : List Formula) × Means nodes hs) × (256 < length (added gs f))
 
 -- what a reading of w answers, and leaves in the store
-abbrev pub Reads : (Rule → Formula) → List Text → ℕ → ℕ → Text → List Formula → List Node → ℕ → Result (Option ℕ × Bor Text) RuleFault → Type 0
-Reads pol ns total d w gs nodes count (Ok x) = (r : Rule) × (parse ns total d w ≡ Ok (r, x.1.now)) × Outcome gs (pol r) x.0 nodes count
-Reads pol ns total d w gs nodes count (Err e) = parse ns total d w ≡ Err e
+abbrev pub Reads : (Rule → Formula) → List Text → ℕ → ℕ → Text → List Formula → List Node → Result (Option ℕ × Bor Text) RuleFault → Type 0
+Reads pol ns total d w gs nodes (Ok x) = (r : Rule) × (parse ns total d w ≡ Ok (r, x.1.now)) × Outcome gs (pol r) x.0 nodes
+Reads pol ns total d w gs nodes (Err e) = parse ns total d w ≡ Err e
 
 -- the number that a reading answers is below n
 abbrev pub Numbered : ℕ → Result (Option ℕ × Bor Text) RuleFault → Type 0

@@ -2,12 +2,13 @@
 ghost use Rattle.std.specs.Prelude.{List};
 ghost use Rattle.logic.specs.Formula.{Formula};
 ghost use Rattle.rules.specs.Names.{names_held};
-ghost use Rattle.rules.specs.Nodes.{Means, Longer};
 ghost use Rattle.rules.specs.Entering.{ReadsBreach, HasRoom};
+ghost use Rattle.rules.specs.Stored.{nodes_held, Holds, Grown};
 
 use crate::names::Names;
-use crate::reading::negated;
+use crate::sign::Sign;
 use crate::store::Store;
+use crate::words::Reader;
 use meaning::refusals::{RuleFault, SheetFault};
 
 // Stores the breach formula of a text and answers its number. `full`: there is no room for a further rule.
@@ -18,24 +19,20 @@ pub fn read_breach(
     full: bool,
     text: &[u8],
 ) -> Result<u16, SheetFault>
-    ensures longer { Longer store.old.nodes store.old.count store.new.nodes store.new.count }
-    ensures room { HasRoom full store.new.nodes store.new.count result }
-    ensures reads { (gs : List Formula) → Means store.old.nodes store.old.count gs → ReadsBreach (names_held names.now) full gs text.now store.new.nodes store.new.count result }
+    ensures longer { Grown store.old store.new }
+    ensures room { HasRoom full (nodes_held store.new) result }
+    ensures reads { (gs : List Formula) → Holds store.old gs → ReadsBreach (names_held names.now) full gs text.now (nodes_held store.new) result }
 {
-    let total = text.len();
-    let (number, rest) = negated(names, total, text, 32, store)?;
+    let reader = Reader::new(names, text);
+    let (number, rest) = reader.read(text, 32, Sign::Negated, store)?;
     if !rest.is_empty() {
-        let place = total.saturating_sub(rest.len());
+        let place = reader.place(rest);
         return Err(SheetFault::Rule(RuleFault::BytesFollow { place }));
     }
     if full {
         return Err(SheetFault::SheetFull);
     }
-    let Some(root) = number else {
-        return Err(SheetFault::SheetFull);
-    };
-    match store.breach(root) {
-        Some(_) => Ok(root),
-        None => Err(SheetFault::OverKept),
-    }
+    let root = number.ok_or(SheetFault::SheetFull)?;
+    store.breach(root).ok_or(SheetFault::OverKept)?;
+    Ok(root)
 }

@@ -6,5 +6,6 @@ mod entering;
 mod names;
 mod reading;
 pub mod sheet;
+mod sign;
 mod store;
 mod words;

@@ -1,10 +1,13 @@
 // A sheet: its names and its rules.
-ghost use Rattle.std.specs.Prelude.{◌≡◌, ℕ, ◌<◌, ◌≤◌, length, slice_index};
+ghost use Rattle.std.specs.Prelude.{ℕ, ◌<◌, length, slice_index};
+ghost use Rattle.fixed.specs.Held.{held};
 ghost use Rattle.rules.specs.Kept.{FewKept};
 ghost use Rattle.rules.specs.Stands.{SomeRules};
+ghost use Rattle.rules.specs.Stored.{nodes_held};
 
 use crate::names::Names;
 use crate::store::Store;
+use fixed::FixedList;
 
 mod changes;
 mod questions;
@@ -14,11 +17,8 @@ mod questions;
 pub struct Sheet {
     names: Names,
     store: Store,
-    roots: [u16; 16],
-    rules: usize,
-    ghost size: { length roots ≡ 16 },
-    ghost few: { rules ≤ 16 },
-    ghost rooted: { (i : ℕ) → i < rules → slice_index roots i < store.count },
-    ghost kept: { (i : ℕ) → i < rules → FewKept store.nodes store.count (slice_index roots i) },
-    ghost stands: { SomeRules names store.nodes store.count roots rules },
+    roots: FixedList<u16, 16>,
+    ghost rooted: { (i : ℕ) → i < length (held roots) → slice_index (held roots) i < length (nodes_held store) },
+    ghost kept: { (i : ℕ) → i < length (held roots) → FewKept (nodes_held store) (slice_index (held roots) i) },
+    ghost stands: { SomeRules names (nodes_held store) (held roots) },
 }

@@ -10,11 +10,7 @@ pub fn length_to(text: &[u8], stop: u8) -> usize
     ensures is { result ≡ length_to stop text.now }
     ensures within { result ≤ length text.now }
 {
-    let mut n = 0;
-    while n < text.len() && text[n] != stop {
-        n += 1;
-    }
-    n
+    text.iter().position(|b| *b == stop).unwrap_or(text.len())
 }
 
 impl Name {
@@ -22,8 +18,7 @@ impl Name {
     fn is_spelled(&self, word: &[u8]) -> bool
         ensures { Decides result (letters_of self.now ≡ word.now) }
     {
-        let n = length_to(&self.letters, 0);
-        &self.letters[0..n] == word
+        self.letters.as_slice() == word
     }
 }
 
@@ -32,11 +27,10 @@ impl Names {
     pub fn place(&self, word: &[u8]) -> Option<u8>
         ensures { result ≡ place_of (names_held self.now) word.now }
     {
-        for (i, name) in self.list.iter().enumerate() {
-            if i < self.count && name.is_spelled(word) {
-                return Some(i as u8);
-            }
-        }
-        None
+        let names = self.list.as_slice();
+        names
+            .iter()
+            .position(|name| name.is_spelled(word))
+            .map(|i| i as u8)
     }
 }

@@ -14,6 +14,7 @@ use crate::names::Names;
 use crate::names::opening::read_names;
 use crate::sheet::Sheet;
 use crate::store::Store;
+use fixed::FixedList;
 use meaning::refusals::{NamesFault, SheetFault};
 
 impl Sheet {
@@ -24,8 +25,7 @@ impl Sheet {
         Sheet {
             names,
             store: Store::blank(),
-            roots: [0; 16],
-            rules: 0,
+            roots: FixedList::new(0),
         }
     }
 
@@ -53,13 +53,9 @@ impl Sheet {
         ensures is { OpeningIs self.old text.now result self.new }
         ensures led { (h : History) (n : ℕ) → SheetLed h n self.old → OpeningLed h n text.now result self.new }
     {
-        match read_names(text) {
-            Some(names) => {
-                *self = Sheet::with_names(names);
-                Ok(())
-            }
-            None => Err(NamesFault::Unfit),
-        }
+        let names = read_names(text).ok_or(NamesFault::Unfit)?;
+        *self = Sheet::with_names(names);
+        Ok(())
     }
 
     // Adds the rule of a text and answers its number. A refusal changes nothing.
@@ -69,12 +65,10 @@ impl Sheet {
         ensures answers { (ns ts : List Text) → SheetIs ns ts self.old → EnteringIs ns ts text.now result self.new }
         ensures led { (h : History) (n : ℕ) → SheetLed h n self.old → EnteringLed h n text.now result self.new }
     {
-        let n = self.rules;
         let mut store = self.store;
-        let root = read_breach(&self.names, &mut store, n >= 16, text)?;
+        let root = read_breach(&self.names, &mut store, self.roots.is_full(), text)?;
+        let rule = self.roots.push(root).ok_or(SheetFault::SheetFull)?;
         self.store = store;
-        self.roots[n] = root;
-        self.rules = n + 1;
-        Ok(n)
+        Ok(rule)
     }
 }

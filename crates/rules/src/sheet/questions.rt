@@ -1,5 +1,6 @@
 // What can be asked of a sheet.
 ghost use Rattle.std.specs.Prelude.{◌≡◌, List, length};
+ghost use Rattle.fixed.specs.Held.{held};
 ghost use Rattle.logic.specs.Formula.{Formula};
 ghost use Rattle.meaning.specs.Bytes.{Text};
 ghost use Rattle.rules.specs.Model.{Stands, Asked};
@@ -11,20 +12,18 @@ use formulas::breach::BreachFormula;
 impl Sheet {
     // How many rules there are.
     pub fn rule_count(&self) -> usize
-        ensures is { result ≡ self.now.rules }
+        ensures is { result ≡ length (held self.now.roots) }
         ensures stands { (ns : List Text) (fs : List Formula) → Stands self.now ns fs → result ≡ length fs }
         ensures entered { (ns ts : List Text) → SheetIs ns ts self.now → result ≡ length ts }
     {
-        self.rules
+        self.roots.len()
     }
 
     // The breach formula of a rule; none where there is no such rule.
     pub fn breach(&self, rule: usize) -> Option<BreachFormula>
         ensures { (ns : List Text) (fs : List Formula) → Stands self.now ns fs → Asked fs rule result }
     {
-        if rule >= self.rule_count() {
-            return None;
-        }
-        self.store.breach(self.roots[rule])
+        let root = self.roots.as_slice().get(rule)?;
+        self.store.breach(*root)
     }
 }

@@ -1,27 +1,25 @@
-use Rattle.std.proofs.Common.{◌≡◌, length, sym, refl, ◌∙◌, subst, arith, length-set, rules}
+use Rattle.std.proofs.Common.{◌<◌, length, sym, subst, arith}
 use mathlib.Core.Logic.{∥∥₁_map}
 use Rattle.texts.specs.Fit.{Fit}
-use Rattle.texts.proofs.OfOpening.{fit_unnamed, fit_twice}
-use Rattle.rules.proofs.OfOpening.{joined_names}
+use Rattle.texts.proofs.OfOpening.{fit_unnamed}
+use Rattle.fixed.specs.Held.{held}
+use Rattle.rules.proofs.OfOpening.{joined_names, placed_twice}
 use Rattle.rules.proofs.names.Names.with.Goals as goal
 
-pub returns-in_default : goal.returns-in_default
-returns-in_default c = λ f. fit_unnamed _ _ c.in_default.ensures
+pub returns-in_err-name : goal.returns-in_err-name
+returns-in_err-name c = rw c.from_residual.ensures (λ f. fit_unnamed _ _ c.in_err-name.ensures)
 
-pub returns-in-Some-place : goal.returns-in-Some-place
-returns-in-Some-place c = λ f. fit_twice _ _ _ c.in-Some-place.ensures
+pub returns-then-is_some : goal.returns-then-is_some
+returns-then-is_some c = λ f. placed_twice _ _ c.place.result c.if-is_some.ensures c.place.ensures
 
-pub returns-in-None : goal.returns-in-None
-returns-in-None c =
-    let s : length c.args.self.now.list ≡ 8 = search rules in
-    joined_names c.args.self.now _ _ _ _ (omega arith) s c.in-Some.ensures c.in-None.ensures refl refl
+pub returns : goal.returns
+returns c =
+    let q = c.in_ok-push.ensures in
+    let h : length (held c.args.self.now.list) < 8 = omega (arith, q.0, q.1) in
+    joined_names c.args.self.now (held c.push.new.self) _ _ h c.in_ok-name.ensures c.place.result c.if-is_some.ensures c.place.ensures q.2
 
 pub invariant_of-result : goal.invariant_of-result
 invariant_of-result c =
-    let n = c.args.self.now in
-    let s : length n.list ≡ 8 = search rules in
-    record {
-      size = length-set _ _ _ ∙ s;
-      few = omega arith;
-      fit = ∥∥₁_map n.fit (λ f. let j = joined_names n _ _ _ _ (omega arith) s c.in-Some.ensures c.in-None.ensures refl refl f in subst Fit (sym j.0) j.1);
-    }
+    let q = c.in_ok-push.ensures in
+    let h : length (held c.args.self.now.list) < 8 = omega (arith, q.0, q.1) in
+    record { fit = ∥∥₁_map c.args.self.now.fit (λ f. let j = joined_names c.args.self.now (held c.push.new.self) _ _ h c.in_ok-name.ensures c.place.result c.if-is_some.ensures c.place.ensures q.2 f in subst Fit (sym j.0) j.1) }

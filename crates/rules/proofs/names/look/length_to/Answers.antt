@@ -1,18 +1,10 @@
-use Rattle.std.proofs.Common.{arith}
-use Rattle.texts.proofs.OfText.{len_more, len_stop, len_end}
+use Rattle.std.proofs.Common.{◌≡◌, ◌<◌, ◌≢◌, length, ◌∙◌, rules, MatchOption}
+use Rattle.std.specs.List.{AllWithin, HoldsAt}
+use Rattle.rules.proofs.OfNames.{length_by}
 use Rattle.rules.proofs.names.look.length_to.Goals as goal
 
-pub loop-n-preserved : goal.loop-n-preserved
-loop-n-preserved c = (omega arith, omega (arith, len_more c.args.stop c.args.text.now c.loop-n.n c.loop-n-test.true c.if-text-n.true))
-
-pub returns-else-text-n : goal.returns-else-text-n
-returns-else-text-n c = record {
-  is = omega (arith, len_stop c.args.stop c.args.text.now c.loop-n.n c.loop-n-test.true c.if-text-n.false);
-  within = omega arith;
-}
-
-pub returns-after-loop-n : goal.returns-after-loop-n
-returns-after-loop-n c = record {
-  is = omega (arith, len_end c.args.stop c.args.text.now c.loop-n.n c.loop-n-test.false);
-  within = omega arith;
-}
+pub returns-clause-is : goal.returns-clause-is
+returns-clause-is c =
+    let xs = c.args.text.now in
+    let p : MatchOption c.position.result (AllWithin (λ x. x ≢ c.args.stop) xs 0 (length xs)) (λ i. (i < length xs) × HoldsAt (λ x. x ≡ c.args.stop) xs i × AllWithin (λ x. x ≢ c.args.stop) xs 0 i) = search rules in
+    c.unwrap_or.ensures ∙ length_by c.args.stop xs c.position.result p

@@ -1,9 +1,15 @@
-use Rattle.std.proofs.Common.{arith}
-use Rattle.rules.proofs.OfKept.{stored_topological}
+use Rattle.std.proofs.Common.{◌≡◌, ◌<◌, ◌≤◌, length, get_or, rules, arith}
+use Rattle.fixed.specs.Held.{held}
 use Rattle.rules.proofs.OfModel.{asked}
 use Rattle.rules.proofs.sheet.Sheet.breach.Goals as goal
 
 pub returns : goal.returns
 returns c =
-    let s = c.args.self.now in
-    λ ns fs st. asked s c.args.rule ns fs c.breach.result (omega arith) st (omega (arith, s.store.few, s.store.size)) (stored_topological s.store.nodes s.store.count s.store.few s.store.size s.store.ordered s.store.signals) (s.rooted c.args.rule (omega arith)) (s.kept c.args.rule (omega arith)) c.breach.ensures
+    let h : c.args.rule < length (held c.args.self.now.roots) = search rules in
+    let e : c.in_ok-root.root.now ≡ get_or (held c.args.self.now.roots) c.args.rule 0 = search rules in
+    λ ns fs st. asked c.args.self.now c.args.rule ns fs c.breach.result h st (rw (← e) c.breach.ensures)
+
+pub returns-in_err-root : goal.returns-in_err-root
+returns-in_err-root c =
+    let h : length (held c.args.self.now.roots) ≤ c.args.rule = search rules in
+    rw c.from_residual.ensures (λ ns fs st. let n = st.count in omega arith)

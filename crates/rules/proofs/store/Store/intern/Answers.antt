@@ -1,33 +1,20 @@
-use Rattle.std.proofs.Common.{◌≡◌, ◌<◌, ◌≤◌, length, ◌∙◌, arith, length-set, rules}
-use Rattle.rules.proofs.OfNodes.{intern_old, intern_full, intern_new, longer_same, longer_set, finds_in, lacks_in, set_each}
+use Rattle.std.proofs.Common.{◌<◌, ◌≤◌, arith, rules}
 use Rattle.formulas.specs.Nodes.{reach, signal_of}
-use Rattle.rules.specs.Nodes.{OperandsBefore, SignalsBelowEight}
+use Rattle.rules.specs.Stored.{nodes_held}
+use Rattle.fixed.specs.Held.{held}
+use Rattle.rules.proofs.OfNodes.{intern_old, intern_full, intern_new, Pushed, pushed, each_pushed}
 use Rattle.rules.proofs.store.Store.intern.Goals as goal
 
-pub returns-then-n-ge256 : goal.returns-then-n-ge256
-returns-then-n-ge256 c =
-    let s : length c.args.self.now.nodes ≡ 256 = search rules in
-    record { within = tt; longer = longer_same _ _; interned = λ gs m r. intern_full _ _ gs _ m r (lacks_in _ _ _ (omega arith) c.in-None.ensures) c.if-n-ge256.true }
+pub returns-in-Some-clause-interned : goal.returns-in-Some-clause-interned
+returns-in-Some-clause-interned c = λ gs m r. intern_old _ gs _ _ m (search rules)
 
-pub returns-in-Some : goal.returns-in-Some
-returns-in-Some c =
-    let s : length c.args.self.now.nodes ≡ 256 = search rules in
-    let f = finds_in c.args.self.now.nodes c.args.self.now.count c.in-Some.i c.args.node (omega arith) c.in-Some.ensures in
-    record { within = f.0; longer = longer_same _ _; interned = λ gs m r. intern_old _ _ gs _ _ m f.0 f.1 }
+pub returns-in_err-place-clause-interned : goal.returns-in_err-place-clause-interned
+returns-in_err-place-clause-interned c = rw (c.from_residual.ensures, c.in_err-place.ensures.1) (λ gs m r. intern_full _ gs _ m r (search rules) (omega (arith, c.in_err-place.ensures.0)))
 
-pub returns-else-n-ge256 : goal.returns-else-n-ge256
-returns-else-n-ge256 c =
-    let s : length c.args.self.now.nodes ≡ 256 = search rules in
-    record { within = omega arith; longer = longer_set _ _ _; interned = λ gs m r. intern_new _ _ gs _ m r (lacks_in _ _ _ (omega arith) c.in-None.ensures) (omega arith) }
+pub returns-clause-interned : goal.returns-clause-interned
+returns-clause-interned c = let e = c.in_ok-place.ensures in rw (e.0, e.2) (λ gs m r. intern_new _ gs _ m r (search rules))
 
 pub invariant_of-self : goal.invariant_of-self
 invariant_of-self c =
-    let s : length c.args.self.now.nodes ≡ 256 = search rules in
-    let o : OperandsBefore c.args.self.now.nodes c.args.self.now.count = search rules in
-    let g : SignalsBelowEight c.args.self.now.nodes c.args.self.now.count = search rules in
-    record {
-      size = length-set _ _ _ ∙ s;
-      few = omega arith;
-      ordered = set_each (λ i n. reach n ≤ i) _ _ _ o (omega arith) c.requires.before;
-      signals = set_each (λ i n. signal_of n < 8) _ _ _ g (omega arith) c.requires.signal;
-    }
+    let p : Pushed (nodes_held c.args.self.now) (held c.push.new.self) c.args.node = pushed _ _ _ _ c.push.ensures in
+    record { ordered = each_pushed (λ i n. reach n ≤ i) p c.args.self.now.ordered c.requires.before; signals = each_pushed (λ i n. signal_of n < 8) p c.args.self.now.signals c.requires.signal }
