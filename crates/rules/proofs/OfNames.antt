@@ -1,5 +1,5 @@
 -- Names that are held, by their places.
-use Rattle.std.proofs.Common.{◌≡◌, ℕ, ◌+◌, ◌<◌, ◌≤◌, false, cond, eqb, ◌≢◌, List, [], ◌∷◌, map, length, get_or, Some, None, Ok, Option, sym, refl, ap, ◌∙◌, arith, MatchOption}
+use Rattle.std.proofs.Common.{◌≡◌, ℕ, ◌<◌, ◌≤◌, false, cond, eqb, ◌≢◌, List, [], ◌∷◌, map, length, get_or, Some, None, Ok, Option, sym, refl, ap, ◌∙◌, arith, MatchOption}
 use lib.ListN.{length-map}
 use Rattle.std.specs.List.{AllWithin, HoldsAt, position_or_len}
 use Rattle.std.specs.Option.{unwrap_or}

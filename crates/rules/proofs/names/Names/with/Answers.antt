@@ -1,4 +1,4 @@
-use Rattle.std.proofs.Common.{◌≡◌, ◌<◌, length, sym, subst, arith}
+use Rattle.std.proofs.Common.{◌<◌, length, sym, subst, arith}
 use mathlib.Core.Logic.{∥∥₁_map}
 use Rattle.texts.specs.Fit.{Fit}
 use Rattle.texts.proofs.OfOpening.{fit_unnamed}
