@@ -15,6 +15,7 @@ use Rattle.formulas.proofs.Formulas.{made, formula_at}
 use Rattle.formulas.proofs.Kept.{part_below}
 use Rattle.formulas.proofs.Placed.{topological}
 use Rattle.formulas.proofs.Differ.{many_kept, few_kept, not_many}
+use Rattle.fixed.specs.Held.{held}
 use Rattle.fixed.proofs.Held.{held_fits}
 use Rattle.rules.specs.declared.store.Store.{Store}
 use Rattle.rules.specs.Nodes.{Means, Longer}

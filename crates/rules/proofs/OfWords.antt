@@ -1,7 +1,5 @@
 -- The words that every text has.
-use Rattle.std.proofs.Common.{◌≡◌, ℕ, zero, suc, ◌<◌, ◌⊎◌, Bool, true, false, ◌&&◌, eqb, ltb, List, [], ◌∷◌, drop, Some, None, Ok, Err, codes, IsUtf8, IsAscii, Option, Result, sym, refl, ap, ◌∙◌, subst, inl, inr, arith, MatchOption, Bor}
-use Rattle.std.proofs.lemmas.Bool.Decides.{nat_tests}
-use Rattle.std.proofs.lemmas.Str.{IsUtf8-from_ascii}
+use Rattle.std.proofs.Common.{◌≡◌, ℕ, ◌<◌, ◌⊎◌, List, drop, Some, None, Ok, Err, Option, Result, sym, refl, ap, ◌∙◌, subst, inl, inr, MatchOption, Bor}
 use Rattle.texts.specs.declared.words.Unary.{Unary}
 use Rattle.texts.specs.declared.words.Binary.{Binary}
 use Rattle.texts.specs.declared.words.Word.{Word}
@@ -10,44 +8,7 @@ use Rattle.meaning.specs.declared.refusals.RuleFault.{RuleFault}
 use Rattle.meaning.specs.declared.refusals.RuleFault.TheVariants.{TooDeep}
 use Rattle.texts.specs.Places.{place_of}
 use Rattle.texts.specs.Words.{fixed_word, word_of, or_name, heads, Heads, allowed, WordAbove}
-use Rattle.texts.proofs.OfNames.{same_false}
 use Rattle.texts.proofs.OfWords.{word_fixed, word_named, deep_one, deep_two, one_at, two_at}
-
-other_byte : (c k : ℕ) → (c ∷ [] ≡ k ∷ [] → ⊥) → eqb c k ≡ false
-other_byte c k n = let m = λ (e : c ≡ k). n (ap (λ (x : ℕ). x ∷ []) e) in grind (arith, nat_tests)
-
--- a word that is none of them
-pub not_fixed : (w : List ℕ) → (w ≡ codes "true" → ⊥) → (w ≡ codes "false" → ⊥) → (w ≡ codes "!" → ⊥) → (w ≡ codes "X" → ⊥) → (w ≡ codes "F" → ⊥) → (w ≡ codes "G" → ⊥) → (w ≡ codes "&" → ⊥) → (w ≡ codes "|" → ⊥) → (w ≡ codes "->" → ⊥)
-    → (w ≡ codes "U" → ⊥) → (w ≡ codes "V" → ⊥) → None ≡ fixed_word w
-unfolding fixed_word
-not_fixed [] t f n x e g a o i u v = refl
-not_fixed (c ∷ []) t f n x e g a o i u v = simp (other_byte c 33 n, other_byte c 88 x, other_byte c 70 e, other_byte c 71 g, other_byte c 38 a, other_byte c 124 o, other_byte c 85 u, other_byte c 86 v)
-not_fixed (c ∷ (d ∷ ds)) t f n x e g a o i u v = simp (same_false _ _ t, same_false _ _ f, same_false _ _ i)
-
-small : List ℕ → Bool
-small [] = true
-small (b ∷ bs) = ltb b 128 && small bs
-
-is_ascii : (bs : List ℕ) → small bs ≡ true → IsAscii bs
-unfolding small
-is_ascii [] h i = omega arith
-is_ascii (b ∷ bs) h zero = let both : (b < 128) × (small bs ≡ true) = grind (arith, nat_tests) in both.0
-is_ascii (b ∷ bs) h (suc i) = let both : (b < 128) × (small bs ≡ true) = grind (arith, nat_tests) in is_ascii bs both.1 i
-
-ascii : (bs : List ℕ) → small bs ≡ true → IsUtf8 bs
-ascii bs h = IsUtf8-from_ascii bs (is_ascii bs h)
-
-other_text : (w p : List ℕ) → (IsUtf8 w → ⊥) → IsUtf8 p → w ≡ p → ⊥
-other_text w p u h e = u (subst IsUtf8 (sym e) h)
-
--- they are all ASCII
-pub not_text : (w : List ℕ) → (IsUtf8 w → ⊥) → None ≡ fixed_word w
-unfolding small
-not_text w u =
-    not_fixed w (other_text w _ u (ascii (codes "true") refl)) (other_text w _ u (ascii (codes "false") refl)) (other_text w _ u (ascii (codes "!") refl))
-    (other_text w _ u (ascii (codes "X") refl)) (other_text w _ u (ascii (codes "F") refl)) (other_text w _ u (ascii (codes "G") refl))
-    (other_text w _ u (ascii (codes "&") refl)) (other_text w _ u (ascii (codes "|") refl)) (other_text w _ u (ascii (codes "->") refl))
-    (other_text w _ u (ascii (codes "U") refl)) (other_text w _ u (ascii (codes "V") refl))
 
 -- a fixed word, else a name
 pub word_is : (ns : List (List ℕ)) (w : List ℕ) (f r : Option Word) → f ≡ fixed_word w → MatchOption f (r ≡ or_name None (place_of ns w)) (λ x. r ≡ Some x) → r ≡ word_of ns w

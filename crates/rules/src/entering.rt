@@ -6,7 +6,6 @@ ghost use Rattle.rules.specs.Entering.{ReadsBreach, HasRoom};
 ghost use Rattle.rules.specs.Stored.{nodes_held, Holds, Grown};
 
 use crate::names::Names;
-use crate::sign::Sign;
 use crate::store::Store;
 use crate::words::Reader;
 use meaning::refusals::{RuleFault, SheetFault};
@@ -24,7 +23,7 @@ pub fn read_breach(
     ensures reads { (gs : List Formula) → Holds store.old gs → ReadsBreach (names_held names.now) full gs text.now (nodes_held store.new) result }
 {
     let reader = Reader::new(names, text);
-    let (number, rest) = reader.read(text, 32, Sign::Negated, store)?;
+    let (number, rest) = reader.negated(text, 32, store)?;
     if !rest.is_empty() {
         let place = reader.place(rest);
         return Err(SheetFault::Rule(RuleFault::BytesFollow { place }));

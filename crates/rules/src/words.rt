@@ -1,7 +1,7 @@
 // The words of a rule text.
 ghost use Rattle.std.specs.Prelude.{◌≡◌, ◌-◌, length, drop};
 ghost use Rattle.rules.specs.Names.{names_held};
-ghost use Rattle.texts.specs.Words.{fixed_word, word_of, Heads, Above};
+ghost use Rattle.texts.specs.Words.{operator_word, long_word as long_words, fixed_word, word_of, Heads, Above};
 
 use crate::names::Names;
 use crate::names::look::length_to;
@@ -9,24 +9,43 @@ use meaning::refusals::RuleFault;
 use std::str::from_utf8;
 use texts::words::{Binary, Leaf, Unary, Word};
 
+// The words of one letter.
+fn operator(c: u8) -> Option<Word>
+    ensures { result ≡ operator_word c }
+{
+    match char::from(c) {
+        '!' => Some(Word::One(Unary::Not)),
+        'X' => Some(Word::One(Unary::Next)),
+        'F' => Some(Word::One(Unary::Finally)),
+        'G' => Some(Word::One(Unary::Globally)),
+        '&' => Some(Word::Two(Binary::And)),
+        '|' => Some(Word::Two(Binary::Or)),
+        'U' => Some(Word::Two(Binary::Until)),
+        'V' => Some(Word::Two(Binary::Release)),
+        _ => None,
+    }
+}
+
+// The longer words.
+fn long_word(word: &[u8]) -> Option<Word>
+    ensures { result ≡ long_words word.now }
+{
+    match from_utf8(word).ok()? {
+        "true" => Some(Word::Zero(Leaf::True)),
+        "false" => Some(Word::Zero(Leaf::False)),
+        "->" => Some(Word::Two(Binary::Implies)),
+        _ => None,
+    }
+}
+
 // The words that every text has.
 pub fn fixed_word(word: &[u8]) -> Option<Word>
     ensures { result ≡ fixed_word word.now }
 {
-    Some(match from_utf8(word).ok()? {
-        "true" => Word::Zero(Leaf::True),
-        "false" => Word::Zero(Leaf::False),
-        "!" => Word::One(Unary::Not),
-        "X" => Word::One(Unary::Next),
-        "F" => Word::One(Unary::Finally),
-        "G" => Word::One(Unary::Globally),
-        "&" => Word::Two(Binary::And),
-        "|" => Word::Two(Binary::Or),
-        "->" => Word::Two(Binary::Implies),
-        "U" => Word::Two(Binary::Until),
-        "V" => Word::Two(Binary::Release),
-        _ => return None,
-    })
+    match word {
+        [c] => operator(*c),
+        _ => long_word(word),
+    }
 }
 
 // What follows the one space after a word.

@@ -30,7 +30,7 @@ pub returns-in_err-ok_or-clause-reads : goal.returns-in_err-ok_or-clause-reads
 returns-in_err-ok_or-clause-reads c =
     let p = passed _ c.in_err-ok_or.field-0.0 c.from_residual-in_err-ok_or.ensures.1 in
     let n = was_none c.breach.result _ _ c.in_err-ok_or.ensures.value in
-    let s = c.read.new.store in
+    let s = c.negated.new.store in
     let none = n.0 in
     let many : ManyKept (nodes_held s) c.in_ok-root.root = search rules in
     let below : c.in_ok-root.root < length (nodes_held s) = search rules in
@@ -39,13 +39,13 @@ returns-in_err-ok_or-clause-reads c =
 
 pub returns-clause-room : goal.returns-clause-room
 returns-clause-room c =
-    let s = c.read.new.store in
+    let s = c.negated.new.store in
     let b : BreachAt (nodes_held s) c.in_ok-root.root c.in_ok-ok_or.field-0 = search rules in
     (c.if-full.false, search rules, not_over (nodes_held s) _ b.few)
 
 pub returns-clause-reads : goal.returns-clause-reads
 returns-clause-reads c =
-    let s = c.read.new.store in
+    let s = c.negated.new.store in
     let b : BreachAt (nodes_held s) c.in_ok-root.root c.in_ok-ok_or.field-0 = search rules in
     let below : c.in_ok-root.root < length (nodes_held s) = search rules in
     λ gs m. exit_ok _ _ gs _ _ _ _ _ (rw (c.new-reader.ensures.names, c.new-reader.ensures.total) at (c.in_ok-number.ensures.reads gs m)) (true-eqb _ 0 c.if-not-is_empty.ensures) c.in_ok-root.ensures.ok_part c.if-full.false (held_fits s.nodes) (λ hs h. within_kept (nodes_held s) hs (store_topological s) h _ below b.few)
