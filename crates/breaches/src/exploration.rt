@@ -25,48 +25,48 @@ impl<M: Machine> Exploration<'_, M> {
     }
 
     // The letter of a state.
-    fn letter(&self, s: usize) -> u8
-        requires { s < (M.Machine.meaning self.now.machine.now).count }
-        ensures { result ≡ (M.Machine.meaning self.now.machine.now).letter s }
+    fn letter(&self, state: usize) -> u8
+        requires { state < (M.Machine.meaning self.now.machine.now).count }
+        ensures { result ≡ (M.Machine.meaning self.now.machine.now).letter state }
     {
-        self.machine.letter(s).unwrap()
+        self.machine.letter(state).unwrap()
     }
 
     // How many steps a state has.
-    pub(crate) fn step_count(&self, s: usize) -> usize
-        requires { s < (M.Machine.meaning self.now.machine.now).count }
-        ensures { result ≡ length ((M.Machine.meaning self.now.machine.now).steps s) }
+    pub(crate) fn step_count(&self, state: usize) -> usize
+        requires { state < (M.Machine.meaning self.now.machine.now).count }
+        ensures { result ≡ length ((M.Machine.meaning self.now.machine.now).steps state) }
     {
-        self.machine.step_count(s).unwrap()
+        self.machine.step_count(state).unwrap()
     }
 
     // The k-th step of a state.
-    pub(crate) fn step(&self, s: usize, k: usize) -> usize
-        requires state { s < (M.Machine.meaning self.now.machine.now).count }
-        requires step { k < length ((M.Machine.meaning self.now.machine.now).steps s) }
-        ensures value { result ≡ slice_index ((M.Machine.meaning self.now.machine.now).steps s) k }
+    pub(crate) fn step(&self, state: usize, k: usize) -> usize
+        requires state { state < (M.Machine.meaning self.now.machine.now).count }
+        requires step { k < length ((M.Machine.meaning self.now.machine.now).steps state) }
+        ensures value { result ≡ slice_index ((M.Machine.meaning self.now.machine.now).steps state) k }
         ensures inside { result < (M.Machine.meaning self.now.machine.now).count }
     {
-        self.machine.step(s, k).unwrap()
+        self.machine.step(state, k).unwrap()
     }
 
-    // The standing after a walk with the pair s, q.
-    pub(crate) fn standing_after(&self, s: usize, q: u16) -> u16
-        requires state { s < (M.Machine.meaning self.now.machine.now).count }
-        requires standing { q < standings_of self.now.chart.now }
-        ensures value { result ≡ (reader_of self.now.chart.now).next q ((M.Machine.meaning self.now.machine.now).letter s) }
+    // The standing after a walk with the pair of this state and standing.
+    pub(crate) fn standing_after(&self, state: usize, standing: u16) -> u16
+        requires state { state < (M.Machine.meaning self.now.machine.now).count }
+        requires standing { standing < standings_of self.now.chart.now }
+        ensures value { result ≡ (reader_of self.now.chart.now).next standing ((M.Machine.meaning self.now.machine.now).letter state) }
         ensures below { result < standings_of self.now.chart.now }
     {
-        self.chart.next(q, self.letter(s)).unwrap()
+        self.chart.next(standing, self.letter(state)).unwrap()
     }
 
-    // Whether a walk with the pair s, q is a breach.
-    pub(crate) fn is_breach(&self, s: usize, q: u16) -> bool
-        requires state { s < (M.Machine.meaning self.now.machine.now).count }
-        requires standing { q < standings_of self.now.chart.now }
-        ensures { result ≡ bad (M.Machine.meaning self.now.machine.now) (reader_of self.now.chart.now) s q }
+    // Whether a walk with the pair of this state and standing is a breach.
+    pub(crate) fn is_breach(&self, state: usize, standing: u16) -> bool
+        requires state { state < (M.Machine.meaning self.now.machine.now).count }
+        requires standing { standing < standings_of self.now.chart.now }
+        ensures { result ≡ bad (M.Machine.meaning self.now.machine.now) (reader_of self.now.chart.now) state standing }
     {
-        let after = self.standing_after(s, q);
+        let after = self.standing_after(state, standing);
         self.chart.says_breach(after).unwrap()
     }
 }

@@ -61,9 +61,9 @@ impl<'a> Kept<'a> {
         let mut at = end.entry;
         // Kept: over `walk[..depth].iter_mut().rev()` the proof didn't close, since an invariant can't name what is written there.
         for place in (0..depth).rev() {
-            let p = self.entry(at);
-            walk[place] = p.state;
-            at = p.parent;
+            let pair = self.entry(at);
+            walk[place] = pair.state;
+            at = pair.parent;
         }
         depth + 1
     }

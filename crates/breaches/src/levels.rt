@@ -38,10 +38,10 @@ impl<M: Machine> Exploration<'_, M> {
         requires depth { depth_at kept.old.list.area.now i + 1 ≡ kept.old.depth }
         ensures { Leaves (M.Machine.meaning self.now.machine.now) (reader_of self.now.chart.now) (standings_of self.now.chart.now) kept.old.list.area.now (tally_of kept.old) i kept.new.list.area.now (tally_of kept.new) result }
     {
-        let p = kept.entry(i);
-        let standing = self.standing_after(p.state, p.standing);
-        for k in 0..self.step_count(p.state) {
-            let state = self.step(p.state, k);
+        let from = kept.entry(i);
+        let standing = self.standing_after(from.state, from.standing);
+        for k in 0..self.step_count(from.state) {
+            let state = self.step(from.state, k);
             if self.is_breach(state, standing) {
                 return ControlFlow::Break(Behind { entry: i, state });
             }
