@@ -1,13 +1,12 @@
 -- Sets as words. Assumes nothing.
-use Rattle.std.proofs.Common.{◌≡◌, ℕ, zero, suc, ◌+◌, ◌-◌, ◌*◌, ◌/◌, ◌%◌, ◌^◌, ◌<◌, ◌≤◌, Bool, true, false, cond, ◌&&◌, ◌≢◌, List, ◌∷◌, length, get_or, drop, set, replicate, sym, refl, ap, ◌∙◌, ap₂, ⊎_elim, arith, length-drop, length-set, drop-cons, get_or-set_other, get_or-set_same, pow-suc}
-use lib.Seq.{drop-length}
+use Rattle.std.proofs.Common.{◌≡◌, ℕ, zero, suc, ◌+◌, ◌-◌, ◌*◌, ◌/◌, ◌%◌, ◌^◌, ◌<◌, ◌≤◌, Bool, true, false, cond, ◌&&◌, List, ◌∷◌, length, get_or, drop, sym, refl, ap, ◌∙◌, ap₂, ⊎_elim, arith, drop-cons, pow-suc, take, length-take-le, get_or-take}
 use mir.Val.{bool_byte}
-use Rattle.std.proofs.lemmas.Bool.{cases_eq, cases_lt, lt-ltb, le-ltb}
+use Rattle.std.proofs.lemmas.Bool.{cases_lt, lt-ltb, le-ltb}
 use Rattle.logic.specs.Formula.{on}
 use Rattle.logic.specs.Masks.{mask}
 use Rattle.logic.proofs.Masks.{masks_are_right}
 use Rattle.once.specs.Once.{SameWords}
-use Rattle.charting.specs.Sets.{bit_of, bits, Packs, Flags, upto}
+use Rattle.charting.specs.Sets.{bit_of, bits, Packs, upto}
 
 pub bits_length : (p : ℕ → Bool) (i n : ℕ) → length (bits p i n) ≡ n
 unfolding bits
@@ -91,3 +90,12 @@ none_left p i (suc n) zero h =
     let t = none_left p (suc i) n zero (λ k l m. h k (omega arith) (omega arith)) in
     omega (arith, b, t)
 none_left p i (suc n) (suc e) h = none_left p (suc i) n e (λ k l m. h k (omega arith) (omega arith))
+
+-- a set of the first n of a list
+pub packs_front : {X : Type 0} (test : X → Bool) (d : X) (xs : List X) (n : ℕ) (r : List ℕ) → n ≤ length xs
+    → Packs (upto (length (take n xs)) (λ i. test (get_or (take n xs) i d))) r → Packs (upto n (λ i. test (get_or xs i d))) r
+packs_front test d xs n r fits s =
+    let e : length (take n xs) ≡ n = length-take-le n xs fits in
+    packs_same _ _ r (λ k l. ⊎_elim
+    (λ h. upto_in _ (λ i. test (get_or (take n xs) i d)) k (omega arith) ∙ ap test (get_or-take n xs k d h) ∙ sym (upto_in n (λ i. test (get_or xs i d)) k h))
+    (λ h. upto_out _ (λ i. test (get_or (take n xs) i d)) k (omega arith) ∙ sym (upto_out n (λ i. test (get_or xs i d)) k h)) (cases_lt k n)) s

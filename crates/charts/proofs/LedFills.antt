@@ -48,16 +48,16 @@ abbrev SomeRule : List Text → Option Text → (Formula → Type 0) → Type 0
 SomeRule ns o Q = ∥ ((t : Text) × (f : Formula) × (o ≡ Some t) × IsBreachFormula ns t f × Q f) ∥₁
 
 some_right : (ns : List Text) (o : Option Text) (a : Areas) (x : Result (ℕ × ℕ) FillingFault) → SomeRule ns o (λ f. RightFills f a x) → RightFilling (ruled ns o) a x
-some_right ns None a x h = absurd (∥∥₁_elim h ⊥_prop (λ y. let e = y.2 in let z : ◌≡◌ {A = ℕ} 0 1 = cc in omega arith))
+some_right ns None a x h = absurd (∥∥₁_elim h ⊥_prop (λ y. cc y.2))
 some_right ns (Some t) a x h = ∥∥₁_map h (λ y. let e : y.0 ≡ t = cc y.2 in (y.1, subst (λ s. IsBreachFormula ns s y.1) e y.3, y.4))
 
 some_whole : (ns : List Text) (o : Option Text) (c : Held) → SomeRule ns o (λ f. (ks : List Formula) × Whole f ks c) → ChartIs (ruled ns o) None c ready
-some_whole ns None c h = absurd (∥∥₁_elim h ⊥_prop (λ y. let e = y.2 in let z : ◌≡◌ {A = ℕ} 0 1 = cc in omega arith))
+some_whole ns None c h = absurd (∥∥₁_elim h ⊥_prop (λ y. cc y.2))
 some_whole ns (Some t) c h = ∥∥₁_map h (λ y. let e : y.0 ≡ t = cc y.2 in (y.1, y.4.0, subst (λ s. IsBreachFormula ns s y.1) e y.3, y.4.1, refl))
 
 no_right : (ns : List Text) (o : Option Text) (a : Areas) → ∥ (o ≡ None) ∥₁ → RightFilling (ruled ns o) a (Err NoRule)
 no_right ns None a h = refl
-no_right ns (Some t) a h = absurd (∥∥₁_elim h ⊥_prop (λ e. let z : ◌≡◌ {A = ℕ} 0 1 = cc in omega arith))
+no_right ns (Some t) a h = absurd (∥∥₁_elim h ⊥_prop (λ e. cc))
 
 module _ (h : History) (c s rule : ℕ) (sheet : Sheet) (d e : Chart) (is : SheetLed h s sheet) where
   -- the rule's text, and what the filling of its formula brings

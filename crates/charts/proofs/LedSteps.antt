@@ -1,5 +1,5 @@
 -- Beginnings and scans, in the words of histories. Assumes nothing.
-use Rattle.std.proofs.Common.{◌≡◌, ℕ, Bool, true, false, cond, ◌⊎◌, List, [], ◌∷◌, ◌++◌, get_or, Some, None, Ok, Option, Result, sym, refl, ◌∙◌, subst, inl, inr, true≢false, arith}
+use Rattle.std.proofs.Common.{◌≡◌, ℕ, Bool, true, false, cond, ◌⊎◌, List, [], ◌∷◌, ◌++◌, get_or, Some, None, Ok, Option, Result, sym, refl, ◌∙◌, subst, inl, inr, true≢false}
 use mathlib.Core.HLevel.{⊥_prop}
 use mathlib.Core.Logic.{∥∥₁_elim, ∥∥₁_map, ∥∥₁_prop}
 use native.Mathlib.Nat.{ℕ_set}
@@ -30,9 +30,9 @@ blank_led o t c p q = subst (λ z. ChartIs z t c blank) (sym p) (refl, q)
 -- a chart of no rule is blank, and of a rule it is not
 pub no_rule_blank : (s : State) → mode_of s ≡ blank → s ≡ Blank
 no_rule_blank Blank e = refl
-no_rule_blank Ready e = let z : ◌≡◌ {A = ℕ} 0 1 = cc in absurd (omega arith)
-no_rule_blank (Watching q) e = let z : ◌≡◌ {A = ℕ} 0 1 = cc in absurd (omega arith)
-no_rule_blank Broken e = let z : ◌≡◌ {A = ℕ} 0 1 = cc in absurd (omega arith)
+no_rule_blank Ready e = cc
+no_rule_blank (Watching q) e = cc
+no_rule_blank Broken e = cc
 
 pub rule_not_blank : (r : Ruled) (t : Option (List ℕ)) (c : Held) (s : State) → ChartIs (Some r) t c (mode_of s) → s ≡ Blank → ⊥
 rule_not_blank r t c s h e = ∥∥₁_elim h ⊥_prop (λ x. subst (λ z. Watches x.0 x.1 c t (mode_of z)) e x.4)
@@ -61,9 +61,9 @@ module _ (ls : List ℕ) (a : ℕ) (st : List (List ℕ)) (b : ℕ) (nx : List �
 
   pub begun_answered : (o : Option Ruled) (t : Option (List ℕ)) (s : State) → ChartIs o t (held ls a st b nx) (mode_of s) → Begins o t (begun s)
   begun_answered None t Blank h = (refl, h)
-  begun_answered None t Ready h = let z : ◌≡◌ {A = ℕ} 0 1 = cc in absurd (omega arith)
-  begun_answered None t (Watching q) h = let z : ◌≡◌ {A = ℕ} 0 1 = cc in absurd (omega arith)
-  begun_answered None t Broken h = let z : ◌≡◌ {A = ℕ} 0 1 = cc in absurd (omega arith)
+  begun_answered None t Ready h = cc
+  begun_answered None t (Watching q) h = cc
+  begun_answered None t Broken h = cc
   begun_answered (Some r) t Blank h = absurd (rule_not_blank r t (held ls a st b nx) Blank h refl)
   begun_answered (Some r) t Ready h = started r t Ready h
   begun_answered (Some r) t (Watching q) h = started r t (Watching q) h
@@ -122,20 +122,20 @@ module _ (ls : List ℕ) (a : ℕ) (st : List (List ℕ)) (b : ℕ) (nx : List �
 
     -- a watch without letters has no state but ready
     not_some : {X : Type 0} (x : X) → ◌≡◌ {A = Option X} None (Some x) → ⊥
-    not_some x e = let z : ◌≡◌ {A = ℕ} 0 1 = cc in omega arith
+    not_some x e = cc
 
     pub scan_answered : (o : Option Ruled) (t : Option (List ℕ)) (s : State) → ((s ≡ Blank → ⊥) → get_or ls 0 0 ≡ 0)
         → ChartIs o t (held ls a st b nx) (mode_of s) → Scans o t (scanned st nx s letter)
     scan_answered None t Blank first h = (refl, h)
-    scan_answered None t Ready first h = let z : ◌≡◌ {A = ℕ} 0 1 = cc in absurd (omega arith)
-    scan_answered None t (Watching q) first h = let z : ◌≡◌ {A = ℕ} 0 1 = cc in absurd (omega arith)
-    scan_answered None t Broken first h = let z : ◌≡◌ {A = ℕ} 0 1 = cc in absurd (omega arith)
+    scan_answered None t Ready first h = cc
+    scan_answered None t (Watching q) first h = cc
+    scan_answered None t Broken first h = cc
     scan_answered (Some r) t Blank first h = absurd (rule_not_blank r t (held ls a st b nx) Blank h refl)
     scan_answered (Some r) None Ready first h = (refl, h)
     scan_answered (Some r) (Some u) Ready first h = absurd (∥∥₁_elim h ⊥_prop (λ x. not_some u (sym x.4)))
     scan_answered (Some r) None (Watching q) first h = absurd (∥∥₁_elim h ⊥_prop (λ x. ∥∥₁_elim x.4 ⊥_prop (λ y. not_some y.0 y.2)))
     scan_answered (Some r) (Some u) (Watching q) first h =
-        followed r u q (first (λ e. let z : ◌≡◌ {A = ℕ} 0 1 = cc in omega arith)) (stood r u q h) (breached st (after nx q letter)) refl
+        followed r u q (first (λ e. cc)) (stood r u q h) (breached st (after nx q letter)) refl
     scan_answered (Some r) None Broken first h = absurd (∥∥₁_elim h ⊥_prop (λ x. ∥∥₁_elim x.4 ⊥_prop (λ y. not_some y.0 y.2)))
     scan_answered (Some r) (Some u) Broken first h = (
       ∥∥₁_elim h ∥∥₁_prop (λ x. ∥∥₁_map x.4 (λ y. let e : u ≡ y.0 = cc y.2 in (x.0, x.2, subst (Breach x.0) (sym e) y.3))),

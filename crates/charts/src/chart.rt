@@ -11,6 +11,7 @@ ghost use Rattle.charts.specs.Watch.{least, most};
 
 use crate::state::State;
 
+// Kept: the areas are lent, and the counts say how much of them is filled.
 // The labels, the record of each standing (the automaton's states), and 256 next standings for each, one for each letter.
 #[derive(Drop)]
 pub struct Chart<'a> {

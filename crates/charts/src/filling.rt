@@ -24,9 +24,8 @@ fn fill_places(
 {
     let place = formula.root_place();
     let a = all_labels(labels, table, formula).ok_or(FillingFault::LabelsExceed)?;
-    let first = first_standing(labels, a, place);
-    let b =
-        all_standings(standings, next, table, a, &first).ok_or(FillingFault::StandingsExceed)?;
+    let first = first_standing(&labels[..a], place);
+    let b = all_standings(standings, next, table, a, &first).ok_or(FillingFault::StandingsExceed)?;
     Ok((a, b))
 }
 

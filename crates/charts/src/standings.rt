@@ -5,7 +5,7 @@ ghost use Rattle.logic.specs.Masks.{mask};
 ghost use Rattle.logic.specs.Formula.{on};
 ghost use Rattle.charting.specs.Sets.{bit_of, bits, Packs, upto};
 ghost use Rattle.charting.specs.Worklists.{Rooms};
-ghost use Rattle.charting.specs.Walks.{Closed, led, Reached, at_end, Charted, Overfull};
+ghost use Rattle.charting.specs.Walks.{Closed, Reached, at_end, Charted, Overfull};
 ghost use Rattle.logic.proofs.Tables.{letters_append};
 ghost use Rattle.charting.proofs.SetSteps.{words_packs};
 
@@ -46,13 +46,12 @@ fn pack<F: Fn(usize) -> bool>(count: usize, test: &F) -> [u64; 8]
 }
 
 // The first standing: the labels that have bit `place`.
-pub(crate) fn first_standing(labels: &[u32], count: usize, place: usize) -> [u64; 8]
-    requires few { count ≤ 512 }
-    requires fits { count ≤ length labels.now }
+pub(crate) fn first_standing(labels: &[u32], place: usize) -> [u64; 8]
+    requires few { length labels.now ≤ 512 }
     requires place { place < 32 }
-    ensures { Packs (upto count (λ i. on place (slice_index labels.now i))) result }
+    ensures { Packs (upto (length labels.now) (λ i. on place (slice_index labels.now i))) result }
 {
-    pack(count, &|i| (labels[i] >> place) % 2 == 1)
+    pack(labels.len(), &|i| (labels[i] >> place) % 2 == 1)
 }
 
 // The standings by a table of labels, with letters put after their words.
@@ -77,7 +76,10 @@ impl<'a> Automaton for Standings<'a> {
     }
 
     fn after(&self, letter: u8, from: &[u64; 8]) -> [u64; 8] {
-        pack(self.count, &|i| has_label(from, self.table[i * 256 + letter as usize] as usize))
+        pack(
+            self.count,
+            &|i| has_label(from, self.table[i * 256 + letter as usize] as usize),
+        )
     }
 
     ghost same = { λ s u x y same p. words_packs _ x y same p };

@@ -24,13 +24,20 @@ pub(crate) trait Automaton {
     fn after(&self, letter: u8, from: &Self::State) -> Self::State
         ensures { (u : List ℕ) → leads self.now u from.now → leads self.now (longer letter u) result };
 
+    // what leads to a state leads to each that is the same
     ghost same: { (a : Self) (u : List ℕ) (x y : Self.State) → Self.State.alike x y → leads a u y → leads a u x };
 
+    // a word of letters stays one
     ghost lettered: { (s : ℕ) (u : List ℕ) → s < 256 → Letters u → Letters (longer s u) };
 }
 
 // The states one letter after state i, into its row of the next numbers; none where the list is full.
-fn fill_row<A: Automaton>(automaton: &A, list: &mut KeepOnce<A::State>, next: &mut [u16], i: usize) -> Option<()>
+fn fill_row<A: Automaton>(
+    automaton: &A,
+    list: &mut KeepOnce<A::State>,
+    next: &mut [u16],
+    i: usize,
+) -> Option<()>
     requires known { i < list.old.len }
     requires rooms { Rooms list.old.area.now next.old }
     requires walks { (d : A.State) → Reaches d (A.leads automaton.now) list.old.area.now list.old.len }
@@ -48,11 +55,15 @@ fn fill_row<A: Automaton>(automaton: &A, list: &mut KeepOnce<A::State>, next: &m
 }
 
 // All states, and the next numbers; none where there are more states than places.
-pub(crate) fn all_states<A: Automaton>(automaton: &A, area: &mut [A::State], next: &mut [u16]) -> Option<usize>
+pub(crate) fn all_states<A: Automaton>(
+    automaton: &A,
+    area: &mut [A::State],
+    next: &mut [u16],
+) -> Option<usize>
     requires { Rooms area.old next.old }
     ensures { (d : A.State) → MatchOption result (Exceeds A.State.alike d (A.leads automaton.now) (length area.old)) (λ n. Complete A.State.alike d (A.leads automaton.now) A.longer area.new n next.new) }
 {
-    let mut list = KeepOnce::new(&mut *area);
+    let mut list = KeepOnce::new(area);
     list.add(automaton.first())?;
     let mut done = 0;
     // Kept: the list grows while it is walked, which no iterator over it allows.

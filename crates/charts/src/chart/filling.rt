@@ -42,12 +42,7 @@ impl<'a> Chart<'a> {
         self.state = State::Blank;
         self.label_count = 0;
         self.standing_count = 0;
-        let (a, b) = fill_areas(
-            formula,
-            &mut *self.labels,
-            &mut *self.standings,
-            &mut *self.next,
-        )?;
+        let (a, b) = fill_areas(formula, self.labels, self.standings, self.next)?;
         self.label_count = a;
         self.standing_count = b;
         self.state = State::Ready;

@@ -26,15 +26,15 @@ impl<'a> Chart<'a> {
     pub fn next(&self, standing: u16, letter: u8) -> Option<u16>
         ensures { result ≡ (if nat_lt standing self.now.standing_count then Some (after self.now.next.now standing letter) else None) }
     {
-        ((standing as usize) < self.standing_count)
-            .then(|| self.next[standing as usize * 256 + letter as usize])
+        let place = standing as usize * 256 + letter as usize;
+        ((standing as usize) < self.standing_count).then(|| self.next[place])
     }
 
     // Whether the words that lead to a standing are breaches.
     pub fn says_breach(&self, standing: u16) -> Option<bool>
         ensures { result ≡ (if nat_lt standing self.now.standing_count then Some (breached self.now.standings.now standing) else None) }
     {
-        ((standing as usize) < self.standing_count)
-            .then(|| has_label(&self.standings[standing as usize], 0))
+        let q = standing as usize;
+        (q < self.standing_count).then(|| has_label(&self.standings[q], 0))
     }
 }

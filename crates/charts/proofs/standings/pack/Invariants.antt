@@ -1,4 +1,4 @@
-use Rattle.std.proofs.Common.{◌≡◌, ℕ, ◌*◌, ◌<◌, Bool, length, get_or}
+use Rattle.std.proofs.Common.{◌≡◌, ℕ, ◌*◌, ◌<◌, Bool, get_or}
 use Rattle.logic.specs.Masks.{mask}
 use Rattle.charting.specs.Sets.{bits, upto}
 use Rattle.charts.proofs.standings.pack.Given as goal

@@ -19,4 +19,4 @@ returns-clause-led c =
     let f = formula_of c.in_ok-formula.formula in
     λ h k s is led. fill_answered h k s c.args.rule c.args.sheet.now d e is r (left_of f d e r c.fill_with.ensures.left c.fill_with.ensures.filled)
     (λ ns fs st. let is : (c.args.rule < length fs) × (f ≡ get_or fs c.args.rule tru) = search rules in
-        fills_of f d e fs c.args.rule is.0 is.1 r c.fill_with.ensures.filled) led
+    fills_of f d e fs c.args.rule is.0 is.1 r c.fill_with.ensures.filled) led

@@ -1,5 +1,5 @@
 use Rattle.std.proofs.Common.{sym, arith, rules}
-use Rattle.charts.proofs.SoundSteps.{begun_sound, watching_few, inside, broken_sound, going_sound}
+use Rattle.charts.proofs.SoundSteps.{begun_sound, broken_sound, going_sound}
 use Rattle.charts.proofs.chart.Chart.react.Goals as goal
 
 pub invariant_of-self-then-has_label-clause-whole : goal.invariant_of-self-then-has_label-clause-whole
