@@ -2,8 +2,8 @@
 ghost use Rattle.std.specs.Prelude.{◌≡◌, ◌<◌, ◌≤◌, List, [], length, MatchOption};
 ghost use Rattle.logic.specs.Formula.{Formula};
 ghost use Rattle.formulas.specs.Nodes.{made_of, reach, signal_of};
-ghost use Rattle.rules.specs.Nodes.{Interned, Lacks, Finds, Below};
-ghost use Rattle.rules.specs.Stored.{nodes_held, Holds, Grown};
+ghost use Rattle.rules.specs.Nodes.{Interned, Lacks, Finds};
+ghost use Rattle.rules.specs.Stored.{nodes_held, IsStored, Holds, Grown};
 
 use crate::store::Store;
 use fixed::FixedList;
@@ -30,7 +30,7 @@ impl Store {
     pub fn intern(&mut self, node: Node) -> Option<u16>
         requires before { reach node ≤ length (nodes_held self.old) }
         requires signal { signal_of node < 8 }
-        ensures within { Below result (length (nodes_held self.new)) }
+        ensures within { IsStored self.new result }
         ensures longer { Grown self.old self.new }
         ensures interned { (gs : List Formula) → Holds self.old gs → reach node ≤ length (nodes_held self.old) → Interned gs (made_of gs node) result (nodes_held self.new) }
     {
