@@ -24,14 +24,6 @@ impl<M: Machine> Exploration<'_, M> {
         self.machine.start(k).unwrap()
     }
 
-    // The letter of a state.
-    fn letter(&self, state: usize) -> u8
-        requires { state < (M.Machine.meaning self.now.machine.now).count }
-        ensures { result ≡ (M.Machine.meaning self.now.machine.now).letter state }
-    {
-        self.machine.letter(state).unwrap()
-    }
-
     // How many steps a state has.
     pub(crate) fn step_count(&self, state: usize) -> usize
         requires { state < (M.Machine.meaning self.now.machine.now).count }
@@ -57,7 +49,8 @@ impl<M: Machine> Exploration<'_, M> {
         ensures value { result ≡ (reader_of self.now.chart.now).next standing ((M.Machine.meaning self.now.machine.now).letter state) }
         ensures below { result < standings_of self.now.chart.now }
     {
-        self.chart.next(standing, self.letter(state)).unwrap()
+        let letter = self.machine.letter(state).unwrap();
+        self.chart.next(standing, letter).unwrap()
     }
 
     // Whether a walk with the pair of this state and standing is a breach.

@@ -61,15 +61,15 @@ module _ (m : Meaning) (r : Reader) (rows : ℕ) where
       }
 
   -- nothing is left to leave
-  pub cleared : (base : ℕ) (E : List Pair) (n : ℕ) (over : Bool) (j room low : ℕ) (before after : List ℕ) → after ≡ before → Stage m r rows base E n over j → Between m r E low n j → n ≤ low → length E ≡ room → Clears m r room before after n
-  cleared base E n over j room low before after stay s b l e =
+  pub cleared : (base : ℕ) (E : List Pair) (n : ℕ) (over : Bool) (j room low res : ℕ) (before after : List ℕ) → after ≡ before → Stage m r rows base E n over j → Between m r E low n j → n ≤ low → length E ≡ room → res ≡ n → Clears m r room before after res
+  cleared base E n over j room low res before after stay s b l e er =
       let kept : (i : ℕ) → i < n → KeptFrom m r E n i = λ i h. b.kept i (omega arith) in
-      record {
+      rw er (record {
         none = λ ys h. all_good m r E n (length ys) (covered_all m r E n b.starts_kept kept (length ys)) b.starts_good (λ i h. b.good i (omega arith)) ys h.0 (omega arith) h.1;
         few = omega (arith, s.fits);
         pairs = counted m r AnyWalk rows base E n over j s (λ i xs h x. tt) (λ xs w h. covered_all m r E n b.starts_kept kept (length xs) xs w (omega arith));
         stays = stay;
-      }
+      })
 
   -- the pairs of the walks of at most j states
   pub level_fit : (base : ℕ) (E : List Pair) (n : ℕ) (over : Bool) (j room k : ℕ) → Stage m r rows base E n over j → Covered m r E n j → length E ≡ room → k ≡ j + 1 → Fit m r room (Shorter k)

@@ -52,5 +52,4 @@ returns g c =
       | then-loop-kept-test+else-kept-len w ↦ omega (arith, w.len.ensures, w.if-kept-len.false)
       | else-loop-kept-test w ↦ absurd (false≢true (sym c.if-kept.false ∙ w.loop-kept-test.false))
     ] in
-    rw c.len-pairs.ensures
-    (cleared _ _ _ _ _ _ _ _ _ _ _ _ c.loop-kept.invariant.walk c.loop-kept.invariant.stage (c.loop-kept.invariant.between c.if-kept.false) all c.loop-kept.invariant.area)
+    cleared _ _ _ _ _ _ _ _ _ _ _ _ _ c.loop-kept.invariant.walk c.loop-kept.invariant.stage (c.loop-kept.invariant.between c.if-kept.false) all c.loop-kept.invariant.area c.len-pairs.ensures
