@@ -1,5 +1,5 @@
 -- The sets that words reach are the standings after them. Assumes nothing.
-use Rattle.std.proofs.Common.{◌≡◌, ℕ, ◌+◌, ◌*◌, ◌/◌, ◌%◌, ◌<◌, ◌≤◌, Bool, true, ◌↔◌, List, [], ◌∷◌, ◌++◌, length, get_or, sym, refl, ap, ◌∙◌, subst, ⊎_elim, append_assoc, append-nil, arith}
+use Rattle.std.proofs.Common.{◌≡◌, ℕ, ◌+◌, ◌*◌, ◌<◌, ◌≤◌, Bool, true, ◌↔◌, List, [], ◌∷◌, ◌++◌, length, get_or, sym, refl, ap, ◌∙◌, subst, ⊎_elim, append_assoc, append-nil, arith}
 use mathlib.Core.Logic.{∥∥₁_elim, ∥∥₁_map}
 use mathlib.Core.Bool.{Bool-set}
 use mathlib.Core.List.{foldl}
@@ -19,9 +19,9 @@ use Rattle.charting.specs.Sets.{bit_of, Packs, upto}
 use Rattle.charting.specs.Walks.{Closed, trace, Reached, Charted, Overfull}
 use Rattle.charting.proofs.SetSteps.{packs_at, packs_words, upto_in, upto_out}
 use Rattle.charting.specs.Labels.{Labelled}
-use Rattle.charting.specs.Filled.{Stands, after, walked, ClosedNext, Filled, FilledOnce}
+use Rattle.charting.specs.Filled.{Stands, after, walked, Filled, FilledOnce}
 use Rattle.charting.proofs.LabelEnds.{mask_same}
-use Rattle.charting.proofs.WorklistEnds.{counted, too_many}
+use Rattle.charting.proofs.WorklistEnds.{rows_below, counted, too_many}
 
 module _ (f : Formula) (ks : List Formula) (place : ℕ) (root_bit : (w : List ℕ) → on place (mask (label ks w)) ≡ sat f w)
     (ls tb : List ℕ) (a : ℕ) (few : a ≤ 512) (lab : Labelled ks ls a tb) (first : List ℕ) (starts : Packs (upto a (λ i. on place (get_or ls i 0))) first) where
@@ -127,17 +127,12 @@ module _ (f : Formula) (ks : List Formula) (place : ℕ) (root_bit : (w : List �
     standing_classes = counted SameWords [] (Reached tb a first) (SameStanding ks (Breach f)) same_reached reached_same st b ch.apart ch.walks
         (λ u l. let w = walk_is u l in (walked nx u, w.0, w.1))
 
-    next_closed : ClosedNext nx b
-    next_closed k h =
-        let e : k / 256 * 256 + k % 256 ≡ k = omega arith in
-        subst (λ (z : ℕ). get_or nx z 0 < b) e ((ch.rows.at (k / 256) (omega arith)).below (k % 256) (omega arith))
-
     filled : b * 256 ≤ length nx → Filled f ks ls a st b nx
     filled room = record {
       labels_fit = lab.fits;
       standings_fit = ch.fits;
       next_fit = room;
-      closed = next_closed;
+      closed = rows_below ch.rows;
       label_count = lab.count;
       labels_are = lab.words;
       labels_all = lab.all;
@@ -192,10 +187,4 @@ pub some_labels : {f : Formula} {ks : List Formula} {ls : List ℕ} {a : ℕ} {s
 some_labels x = let t = x.labels_all [] tt in omega (arith, t.1)
 
 pub rows_closed : (ks : List Formula) (ls : List ℕ) (a : ℕ) (tb : List ℕ) → Labelled ks ls a tb → a ≤ 512 → a * 256 ≤ length tb → Closed tb a
-rows_closed ks ls a tb lab few room = record {
-  room = room;
-  few = few;
-  below = λ k h.
-      let e : k / 256 * 256 + k % 256 ≡ k = omega arith in
-      subst (λ (z : ℕ). get_or tb z 0 < a) e ((lab.rows.at (k / 256) (omega arith)).below (k % 256) (omega arith));
-}
+rows_closed ks ls a tb lab few room = record { room = room; few = few; below = rows_below lab.rows }

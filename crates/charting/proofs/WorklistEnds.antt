@@ -1,10 +1,17 @@
 -- Different words are as many as the items that they lead to. Assumes nothing.
-use Rattle.std.proofs.Common.{◌≡◌, ℕ, ◌+◌, ◌<◌, ◌≤◌, ◌⊎◌, List, [], get_or, refl, subst, inl, inr, ⊎_elim, arith}
+use Rattle.std.proofs.Common.{◌≡◌, ℕ, ◌+◌, ◌*◌, ◌/◌, ◌%◌, ◌<◌, ◌≤◌, ◌⊎◌, List, [], get_or, refl, subst, inl, inr, ⊎_elim, arith}
 use Rattle.std.proofs.lemmas.Bool.{cases_lt}
 use Rattle.logic.specs.Formula.{Letters}
 use Rattle.logic.specs.Counting.{Classes, More}
 use Rattle.once.specs.Once.{Apart}
-use Rattle.charting.specs.Worklists.{Reaches, Exceeds}
+use Rattle.charting.specs.Worklists.{Reaches, LetterRows, Exceeds}
+
+-- each entry of the rows is one of the n
+pub rows_below : {X : Type 0} {d : X} {In : List ℕ → X → Type 0} {more : ℕ → List ℕ → List ℕ} {xs : List X} {n m : ℕ} {nx : List ℕ} → LetterRows d In more xs n nx m
+    → (k : ℕ) → k < m * 256 → get_or nx k 0 < n
+rows_below {n} {nx} r k h =
+    let e : k / 256 * 256 + k % 256 ≡ k = omega arith in
+    subst (λ (z : ℕ). get_or nx z 0 < n) e ((r.at (k / 256) (omega arith)).below (k % 256) (omega arith))
 
 -- words by number, where there are some below n
 abbrev Known : (List ℕ → ℕ → Type 0) → ℕ → Type 0

@@ -1,5 +1,5 @@
 -- Beginnings and scans, in the words of histories. Assumes nothing.
-use Rattle.std.proofs.Common.{◌≡◌, ℕ, Bool, true, false, cond, ◌⊎◌, List, [], ◌∷◌, ◌++◌, get_or, Some, None, Ok, Option, Result, sym, refl, ◌∙◌, subst, inl, inr, true≢false}
+use Rattle.std.proofs.Common.{◌≡◌, ℕ, Bool, true, false, cond, ◌↔◌, ◌⊎◌, List, [], ◌∷◌, ◌++◌, get_or, Some, None, Ok, Option, Result, sym, refl, ◌∙◌, subst, inl, inr, true≢false}
 use mathlib.Core.HLevel.{⊥_prop}
 use mathlib.Core.Logic.{∥∥₁_elim, ∥∥₁_map, ∥∥₁_prop}
 use native.Mathlib.Nat.{ℕ_set}
@@ -77,12 +77,11 @@ module _ (ls : List ℕ) (a : ℕ) (st : List (List ℕ)) (b : ℕ) (nx : List �
     Scans o t x = RightScanning o t letter x.0 × ChartIs o (watch_after (scanning c letter) x.0 c t) (held ls a st b nx) (mode_of x.1)
 
     -- the letters of a watch are those of its standing
-    Standing : Ruled → List ℕ → ℕ → Type 0
+    abbrev Standing : Ruled → List ℕ → ℕ → Type 0
     Standing r u q =
         (f : Formula) × (ks : List Formula) × FormulaOf (Some r) f × Whole f ks (held ls a st b nx) × Letters u × (Breach f u → ⊥) × StandingOf f ks (held ls a st b nx) u q
 
     stood : (r : Ruled) (u : List ℕ) (q : ℕ) → ChartIs (Some r) (Some u) (held ls a st b nx) (watching q) → ∥ Standing r u q ∥₁
-    unfolding Standing
     stood r u q h = ∥∥₁_elim h ∥∥₁_prop (λ x. ∥∥₁_map x.4 (λ y.
         let e : u ≡ y.0 = cc y.2 in (
           x.0,
@@ -94,30 +93,25 @@ module _ (ls : List ℕ) (a : ℕ) (st : List (List ℕ)) (b : ℕ) (nx : List �
           subst (λ v. StandingOf x.0 x.1 (held ls a st b nx) v q) (sym e) y.4,
         )))
 
+    -- the standing after this letter too, and what it says
+    letter_more : (r : Ruled) (u : List ℕ) (q : ℕ) → get_or ls 0 0 ≡ 0 → (x : Standing r u q) → StandingOf x.0 x.1 (held ls a st b nx) (u ++ letter ∷ []) (after nx q letter)
+        × ((breached st (after nx q letter) ≡ true) ↔ Breach x.0 (u ++ letter ∷ []))
+    letter_more r u q first x =
+        let more = one_letter_more x.0 x.1 ls a st b nx x.3 first u q letter small x.6 in
+        (more, standing_says x.0 x.1 ls a st b nx x.3 first (u ++ letter ∷ []) (after nx q letter) more)
+
     followed : (r : Ruled) (u : List ℕ) (q : ℕ) → get_or ls 0 0 ≡ 0 → ∥ Standing r u q ∥₁ → (v : Bool) → breached st (after nx q letter) ≡ v
         → Scans (Some r) (Some u) (cond v (Ok Scanned.Broken, Broken) (Ok Scanned.GoingOn, Watching (after nx q letter)))
-    unfolding Standing
     followed r u q first h true e = (
-      ∥∥₁_map h (λ x.
-          let more = one_letter_more x.0 x.1 ls a st b nx x.3 first u q letter small x.6 in
-          let says = standing_says x.0 x.1 ls a st b nx x.3 first (u ++ letter ∷ []) (after nx q letter) more in
-          (x.0, x.2, (x.5, says.0 e))),
+      ∥∥₁_map h (λ x. (x.0, x.2, (x.5, (letter_more r u q first x).1.0 e))),
       subst (λ z. ChartIs (Some r) z (held ls a st b nx) broken) (sym (at_same c (Some (u ++ letter ∷ [])) (Some u)))
-          (∥∥₁_map h (λ x.
-          let more = one_letter_more x.0 x.1 ls a st b nx x.3 first u q letter small x.6 in
-          let says = standing_says x.0 x.1 ls a st b nx x.3 first (u ++ letter ∷ []) (after nx q letter) more in
-          (x.0, x.1, x.2, x.3, ∣ (u ++ letter ∷ [], letters_append u (letter ∷ []) x.4 (small, tt), refl, says.0 e) ∣₁))),
+          (∥∥₁_map h (λ x. (x.0, x.1, x.2, x.3, ∣ (u ++ letter ∷ [], letters_append u (letter ∷ []) x.4 (small, tt), refl, (letter_more r u q first x).1.0 e) ∣₁))),
     )
     followed r u q first h false e = (
-      ∥∥₁_map h (λ x.
-          let more = one_letter_more x.0 x.1 ls a st b nx x.3 first u q letter small x.6 in
-          let says = standing_says x.0 x.1 ls a st b nx x.3 first (u ++ letter ∷ []) (after nx q letter) more in
-          (x.0, x.2, (x.5, λ z. true≢false (sym (says.1 z) ∙ e)))),
+      ∥∥₁_map h (λ x. (x.0, x.2, (x.5, λ z. true≢false (sym ((letter_more r u q first x).1.1 z) ∙ e)))),
       subst (λ z. ChartIs (Some r) z (held ls a st b nx) (watching (after nx q letter))) (sym (at_same c (Some (u ++ letter ∷ [])) (Some u)))
-          (∥∥₁_map h (λ x.
-          let more = one_letter_more x.0 x.1 ls a st b nx x.3 first u q letter small x.6 in
-          let says = standing_says x.0 x.1 ls a st b nx x.3 first (u ++ letter ∷ []) (after nx q letter) more in
-          (x.0, x.1, x.2, x.3, ∣ (u ++ letter ∷ [], letters_append u (letter ∷ []) x.4 (small, tt), refl, (λ z. true≢false (sym (says.1 z) ∙ e)), more) ∣₁))),
+          (∥∥₁_map h (λ x. let m = letter_more r u q first x in
+              (x.0, x.1, x.2, x.3, ∣ (u ++ letter ∷ [], letters_append u (letter ∷ []) x.4 (small, tt), refl, (λ z. true≢false (sym (m.1.1 z) ∙ e)), m.0) ∣₁))),
     )
 
     -- a watch without letters has no state but ready
