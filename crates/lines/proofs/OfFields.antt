@@ -1,5 +1,7 @@
-use Rattle.std.proofs.Common.{◌≡◌, ℕ, suc, ◌+◌, ◌-◌, ◌*◌, ◌<◌, ◌≤◌, min, Bool, true, false, cond, eqb, ◌⊎◌, List, [], ◌∷◌, ◌++◌, length, get_or, take, drop, Some, None, codes, Option, sym, refl, ap, ◌∙◌, subst, inl, inr, add-one, arith, length-drop, drop-cons, eq-eqb}
+use Rattle.std.proofs.Common.{◌≡◌, ℕ, suc, ◌+◌, ◌-◌, ◌*◌, ◌<◌, ◌≤◌, min, Bool, true, false, cond, eqb, ◌⊎◌, List, [], ◌∷◌, ◌++◌, length, get_or, take, drop, Some, None, codes, Option, sym, refl, ap, ◌∙◌, inl, inr, add-one, arith, length-drop, drop-cons, eq-eqb}
 use Rattle.std.proofs.lemmas.Slice.{between_to_end}
+use Rattle.std.proofs.lemmas.Bool.{false_from_ne_true}
+use Rattle.std.proofs.lemmas.Slice.Eq.{bytes_eq-Decides}
 use Rattle.std.proofs.lemmas.Bool.Decides.{nat_tests, leb_tells, eqb_tells}
 use Rattle.std.specs.Prelude.{MatchOption, nat_lt, position, is_none, leb, ◌==◌, ◌≢◌}
 use Rattle.std.specs.List.{position_or_len}
@@ -135,51 +137,28 @@ after_parted (k ∷ ks) (b ∷ bs) rest n e = ways (after_parted ks bs rest n.1)
         let f : ◌≡◌ {A = Option Text} None (Some rest) = simp p.0 at e in
         cc
 
--- what stands before the first of two parts or more
-abbrev Follows : Text → Text → Type 0
-Follows p t = (rest : Text) × (after p t ≡ Some rest)
+-- a text whose first field is w, with another behind it, begins with w and a comma
+before_none : (b : ℕ) (ps qs : List Text) → before_first b ps ≡ [] ∷ qs → ⊥
+before_none b [] qs e = cc
+before_none b (p ∷ ps) qs e = cc
 
-front : (b : ℕ) (bs : Text) (ps qs : List Text) (k a : Text) → before_first b ps ≡ k ∷ (a ∷ qs) → ((p : Text) → ps ≡ p ∷ (a ∷ qs) → Follows (p ++ (44 ∷ [])) bs) → Follows (k ++ (44 ∷ [])) (b ∷ bs)
-front b bs [] qs k a e go = cc
-front b bs (p ∷ ps) qs k a e go =
-    let x : b ∷ p ≡ k = cc in
-    let y : p ∷ ps ≡ p ∷ (a ∷ qs) = cc in
-    let f = go p y in
-    let q : eqb b b ≡ true = eq-eqb b b refl in
-    let g : after ((b ∷ p) ++ (44 ∷ [])) (b ∷ bs) ≡ Some f.0 = simp (q, f.1) in
-    subst (λ (u : Text). Follows (u ++ (44 ∷ [])) (b ∷ bs)) x (f.0, g)
+before_some : (b x : ℕ) (ps qs : List Text) (w a : Text) → before_first b ps ≡ (x ∷ w) ∷ (a ∷ qs) → (b ≡ x) × (ps ≡ w ∷ (a ∷ qs))
+before_some b x [] qs w a e = cc
+before_some b x (p ∷ ps) qs w a e = (cc, cc)
 
-parted_after : (t k a : Text) (qs : List Text) → parted 44 t ≡ k ∷ (a ∷ qs) → Follows (k ++ (44 ∷ [])) t
-parted_after [] k a qs e = cc
-parted_after (b ∷ bs) k a qs e = ways (parted_after bs) (eqb_tells b 44)
-  where
-    ways : ((k a : Text) (qs : List Text) → parted 44 bs ≡ k ∷ (a ∷ qs) → Follows (k ++ (44 ∷ [])) bs) → ((eqb b 44 ≡ true) × (b ≡ 44)) ⊎ ((eqb b 44 ≡ false) × (b ≡ 44 → ⊥)) → Follows (k ++ (44 ∷ [])) (b ∷ bs)
-    ways go (inl p) =
-        let f : [] ∷ parted 44 bs ≡ k ∷ (a ∷ qs) = simp p.0 at e in
-        let x : [] ≡ k = cc in
-        let g : after ([] ++ (44 ∷ [])) (b ∷ bs) ≡ Some bs = simp p.0 in
-        subst (λ (u : Text). Follows (u ++ (44 ∷ [])) (b ∷ bs)) x (bs, g)
-    ways go (inr p) =
-        let f : before_first b (parted 44 bs) ≡ k ∷ (a ∷ qs) = simp p.0 at e in
-        front b bs (parted 44 bs) qs k a f (λ p g. go p a qs g)
+no_word : (w t a : Text) (qs : List Text) → parted 44 t ≡ w ∷ (a ∷ qs) → None ≡ after (w ++ (44 ∷ [])) t → ⊥
+no_word w [] a qs e h = cc
+no_word [] (b ∷ bs) a qs e h = elim (eqb_tells b 44) [
+  | inl q ↦ (let f : None ≡ Some bs = simp q.0 at h in cc)
+  | inr q ↦ before_none b (parted 44 bs) (a ∷ qs) (simp q.0 at e)
+]
+no_word (x ∷ w) (b ∷ bs) a qs e h = elim (eqb_tells b 44) [
+  | inl q ↦ (let f : [] ∷ parted 44 bs ≡ (x ∷ w) ∷ (a ∷ qs) = simp q.0 at e in cc)
+  | inr q ↦ (let f = before_some b x (parted 44 bs) qs w a (simp q.0 at e) in no_word w bs a qs f.1 (simp (eq-eqb b x f.0) at h))
+]
 
 not_same : (t k a w : Text) (qs : List Text) → parted 44 t ≡ k ∷ (a ∷ qs) → None ≡ after (w ++ (44 ∷ [])) t → bytes_eq k w ≡ false
-not_same t k a w qs e h =
-    bool_not (bytes_eq k w) (λ s.
-    let x : k ≡ w = same_true k w s in
-    let f = parted_after t k a qs e in
-    let g : after (w ++ (44 ∷ [])) t ≡ Some f.0 = subst (λ (u : Text). after (u ++ (44 ∷ [])) t ≡ Some f.0) x f.1 in
-    cc)
-  where
-    bool_not : (b : Bool) → (b ≡ true → ⊥) → b ≡ false
-    bool_not true h = absurd (h refl)
-    bool_not false h = refl
-
-    same_true : (xs ys : List ℕ) → bytes_eq xs ys ≡ true → xs ≡ ys
-    same_true [] [] h = refl
-    same_true [] (y ∷ ys) h = grind arith
-    same_true (x ∷ xs) [] h = grind arith
-    same_true (x ∷ xs) (y ∷ ys) h = let ih = same_true xs ys in grind (arith, nat_tests)
+not_same t k a w qs e h = false_from_ne_true (bytes_eq k w) (λ s. no_word w t a qs (rw ((bytes_eq-Decides k w).0 s) at e) h)
 
 none_fields : (t : Text) (ps : List Text) → parted 44 t ≡ ps → None ≡ after (codes "state,") t → None ≡ after (codes "step,") t → None ≡ of_fields ps
 none_fields t [] e h g = refl

@@ -1,12 +1,10 @@
 -- The lines of a file one after another, and what is left of it.
 use Rattle.std.proofs.Common.{◌≡◌, ℕ, ◌+◌, ◌<◌, ◌≤◌, true, List, [], ◌∷◌, length, Ok, Err, Result, sym, refl, ap, ◌∙◌, inl, inr, arith}
 use Rattle.meaning.specs.declared.refusals.LineFault.{LineFault}
-use Rattle.meaning.specs.declared.refusals.LineFault.TheVariants.{Table}
-use Rattle.meaning.specs.declared.refusals.TableFault.TheVariants.{Form}
 use Rattle.meaning.specs.declared.refusals.FileFault.{FileFault}
 use Rattle.meaning.specs.Bytes.{Text, parted}
 use Rattle.meaning.specs.Kinds.{Lines}
-use Rattle.meaning.specs.Files.{Line, ended, cut, Rooms, Content, nothing, content, content_from, formed, added_if, lines, lines_of, lines_in, AllGood, FirstBad}
+use Rattle.meaning.specs.Files.{Line, ended, Rooms, Content, nothing, content, content_from, formed, added_if, lines, lines_of, lines_in, AllGood, FirstBad}
 use Rattle.rules.specs.declared.sheet.Sheet.{Sheet}
 use Rattle.lines.proofs.OfFields.{parted_some}
 use Rattle.loading.specs.Takes.{Holds, Takes}
@@ -24,10 +22,6 @@ lines_ended a (p ∷ ps) h = refl
 
 left_ended : (t a more : Text) → parted 10 t ≡ a ∷ parted 10 more → left t ≡ ended a ∷ left more
 left_ended t a more e = ap lines_of e ∙ lines_ended a (parted 10 more) (parted_some 10 more)
-
-lines_cut : (t : Text) → 0 < length t → lines_of (t ∷ []) ≡ cut t ∷ []
-lines_cut [] h = absurd (omega arith)
-lines_cut (b ∷ bs) h = refl
 
 left_none : (t : Text) → length t ≤ 0 → left t ≡ []
 left_none [] h = refl
@@ -80,20 +74,8 @@ good_line r file c n rest a more (Ok v) s ls u g e h q =
       };
     }
 
--- a line that is cut off; a file without bytes has one
-pub cut_line : (r : Rooms) (file : Text) (s : Sheet) (ls : Lines) (n : ℕ) (rest : Text) → Goes r file s ls n rest → parted 10 rest ≡ rest ∷ [] → 0 < length rest
-    → FirstBad r nothing 1 (lines file) (record { line = n + 1; fault = Table Form })
-cut_line r file s ls n rest g e h =
-    let l : left rest ≡ cut rest ∷ [] = ap lines_of e ∙ lines_cut rest h in
-    g.left_over.bad (record { line = n + 1; fault = Table Form }) (rw l (inl (refl, refl)))
-
-pub cut_first : (r : Rooms) (file : Text) → parted 10 file ≡ file ∷ [] → FirstBad r nothing 1 (lines file) (record { line = 1; fault = Table Form })
-cut_first r [] e = inl (refl, refl)
-cut_first r (b ∷ bs) e = rw e (inl (refl, refl))
-
 -- no line left
-pub no_more : (r : Rooms) (file : Text) (s : Sheet) (ls : Lines) (n : ℕ) (rest : Text) → Goes r file s ls n rest → length rest ≤ 0 → AllGood r nothing (lines file) × HasFile file s ls
+pub no_more : (r : Rooms) (file : Text) (s : Sheet) (ls : Lines) (n : ℕ) (rest : Text) → Goes r file s ls n rest → length rest ≤ 0 → HasFile file s ls
 no_more r file s ls n rest g h =
-    let l = left_none rest h in
-    let i : g.so_far ≡ content file = ap (content_from g.so_far) (sym l) ∙ g.left_over.whole in
-    (g.left_over.good (rw l tt), (rw i at g.holds.sheet, g.holds.table ∙ ap lines_in i))
+    let i : g.so_far ≡ content file = ap (content_from g.so_far) (sym (left_none rest h)) ∙ g.left_over.whole in
+    (rw i at g.holds.sheet, g.holds.table ∙ ap lines_in i)

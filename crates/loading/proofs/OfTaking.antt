@@ -20,11 +20,11 @@ use Rattle.lines.specs.Fields.{shown}
 use Rattle.rules.specs.declared.sheet.Sheet.{Sheet}
 use Rattle.rules.specs.Led.{SheetIs}
 use Rattle.loading.specs.Takes.{Holds, Takes, TakesOnSheet, TakesOnTable}
-use Rattle.loading.proofs.OfPlaces.{is_placed, opened_after}
+use Rattle.loading.proofs.OfPlaces.{opened_after}
 
 held_after : (c : Content) (e : Entry) (s : Sheet) (ls : Lines) → placed c (Some e) ≡ Some e → SheetIs (added c e).names (added c e).rules s → ls ≡ lines_in (added c e)
     → Holds s ls true (added_if c (placed c (Some e)))
-held_after c e s ls q a b = rw q (record { sheet = a; table = b; begun = sym (opened_after c e (is_placed c e q)); early = λ x. cc })
+held_after c e s ls q a b = rw q (record { sheet = a; table = b; begun = opened_after c e q; early = λ x. cc })
 
 pub sheet_takes : (r : Rooms) (c : Content) (e : Entry) (k : Result (Unit {0}) LineFault) (s : Sheet) (ls : Lines) → TakesOnSheet r c e k s → ls ≡ lines_in (added c e) → Takes r c (placed c (Some e)) k s ls
 sheet_takes r c e (Ok u) s ls h b = (h.0, held_after c e s ls h.1 h.2 b)

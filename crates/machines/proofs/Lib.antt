@@ -2,5 +2,4 @@ pub mod Nths
 pub mod Asked
 pub mod StuckSteps
 pub mod OfRows
-pub mod OfQuestions
 pub mod OfAdding

@@ -1,13 +1,8 @@
 -- `nth` of the lists that machines are made of.
-use Rattle.std.proofs.Common.{◌≡◌, ℕ, zero, suc, ◌+◌, ◌*◌, List, [], ◌∷◌, map, Some, Option, refl, arith}
+use Rattle.std.proofs.Common.{◌≡◌, ℕ, zero, suc, ◌+◌, ◌*◌, List, [], ◌∷◌, Some, Option, refl, arith}
 use Rattle.std.specs.List.{AllByRecursion, slice_get}
 use Rattle.std.specs.Option.{option_map}
 use Rattle.meaning.specs.Kinds.{doubled}
-
-pub nth_map : {X Y : Type 0} (f : X → Y) (xs : List X) (k : ℕ) → slice_get (map f xs) k ≡ option_map f (slice_get xs k)
-nth_map f [] k = refl
-nth_map f (x ∷ xs) zero = refl
-nth_map f (x ∷ xs) (suc k) = nth_map f xs k
 
 pub nth_doubled_low : (n : ℕ) (ts : List ℕ) (q k : ℕ) → k ≡ 2 * q → slice_get (doubled n ts) k ≡ slice_get ts q
 nth_doubled_low n [] q k e = refl

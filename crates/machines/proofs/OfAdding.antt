@@ -1,5 +1,8 @@
 -- What a table answers to one line more, and what it holds then.
-use Rattle.std.proofs.Common.{◌≡◌, ℕ, ◌+◌, ◌<◌, ◌≤◌, Bool, length, set, refl, ap, arith, length-set}
+use Rattle.std.proofs.Common.{◌≡◌, ℕ, suc, ◌+◌, ◌-◌, ◌<◌, ◌≤◌, Bool, List, [], ◌∷◌, map, length, set, Some, None, Option, refl, ap, ◌∙◌, arith, length-set}
+use Rattle.std.specs.Prelude.{MatchOption, option_copied}
+use Rattle.std.specs.Borrow.{Bor}
+use Rattle.std.specs.List.{slice_get}
 use mir.Val.{bool_byte}
 use Rattle.std.proofs.lemmas.List.{get_or-set_same}
 use Rattle.meaning.specs.Files.{last_from}
@@ -7,9 +10,17 @@ use Rattle.meaning.specs.Kinds.{Lines}
 use Rattle.machines.specs.declared.records.State.{State}
 use Rattle.machines.specs.declared.records.Step.{Step}
 use Rattle.machines.specs.declared.table.Table.{Table}
-use Rattle.machines.specs.Rows.{blank_state, row, stepped, state_line, state_lines, step_lines, Rows}
+use Rattle.machines.specs.Rows.{blank_state, row, stepped, state_line, step_line, state_lines, step_lines, Rows}
 use Rattle.machines.specs.Held.{held_lines, with_state, with_step}
 use Rattle.machines.proofs.OfRows.{renumbered, fresh, same_front, state_lines_more, step_lines_more, numbered, declared, joined}
+
+-- the source of the last line, as the last record tells it
+pub last_known : (es : List Step) (o : Option (Bor Step)) (r : ℕ) → option_copied o ≡ slice_get es (length es - 1) → MatchOption o (r ≡ 0) (λ x. r ≡ x.now.from) → r ≡ last_from (map step_line es)
+last_known [] None r e h = h
+last_known [] (Some x) r e h = cc
+last_known (x ∷ []) None r e h = cc
+last_known (x ∷ []) (Some y) r e h = let q : y.now ≡ x = cc in h ∙ ap (λ z. z.from) q
+last_known (x ∷ (y ∷ ys)) o r e h = let q : length (x ∷ (y ∷ ys)) - 1 ≡ suc (length (y ∷ ys) - 1) = omega arith in last_known (y ∷ ys) o r (rw q at e) h
 
 module _ (t : Table) where
   -- a state

@@ -54,4 +54,4 @@ pub returns-then-is_empty-clause-accepted : goal.returns-then-is_empty-clause-ac
 returns-then-is_empty-clause-accepted c = λ b.
     let v = c.loop-text in
     let none : length v.rest.now ≤ 0 = grind (arith, nat_tests) in
-    (no_more (rooms_of c.args.table.now) c.args.file.now v.sheet (held_lines v.table) v.line v.rest.now (v.invariant.0 b) none).1
+    no_more (rooms_of c.args.table.now) c.args.file.now v.sheet (held_lines v.table) v.line v.rest.now (v.invariant.0 b) none

@@ -1,5 +1,5 @@
 use Rattle.std.proofs.Common.{take, rules}
-use Rattle.machines.proofs.OfQuestions.{last_known}
+use Rattle.machines.proofs.OfAdding.{last_known}
 use Rattle.machines.proofs.table.Table.last_from.Goals as goal
 
 pub returns : goal.returns
