@@ -10,6 +10,7 @@ use std::str::from_utf8;
 use texts::words::{Binary, Leaf, Unary, Word};
 
 // The words that every text has.
+#[tactic(auto, using(crate::proofs::OfWords::not_fixed, crate::proofs::OfWords::not_text), unfolding(texts::specs::Words::fixed_word))]
 pub fn fixed_word(word: &[u8]) -> Option<Word>
     ensures { result ≡ fixed_word word.now }
 {
