@@ -6,8 +6,8 @@ ghost use Rattle.std.specs.Prelude.{◌≡◌, ◌<◌, ◌≤◌, [], ◌∷◌
 
 use std::alloc::AllocError;
 
-// Up to N items in order, with a blank in each free place. The kit's `arrayvec::ArrayVec` is not
-// `Copy`, and the breach formulas and sheets that are made of these lists are copied as values.
+// Up to N items in order, with a blank in each free place.
+// Kept: `arrayvec::ArrayVec` is not `Copy`, and the breach formulas and sheets made of these lists are copied as values.
 pub struct FixedList<T, const N: usize> {
     items: [T; N],
     len: usize,
@@ -15,6 +15,7 @@ pub struct FixedList<T, const N: usize> {
     ghost fits: { len ≤ N },
 }
 
+// Kept: `Clone` is not derived over the ghost fields of a generic struct.
 impl<T: Copy, const N: usize> Clone for FixedList<T, N> {
     ghost is_clone = { λ x y. y ≡ x };
 

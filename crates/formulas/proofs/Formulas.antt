@@ -1,5 +1,6 @@
 -- The formula of each node. Assumes nothing.
 use Rattle.std.proofs.Common.{◌≡◌, ℕ, zero, suc, ◌+◌, ◌<◌, List, [], ◌∷◌, ◌++◌, length, get_or, sym, refl, ap, ◌∙◌, subst, ap₂, arith, length-append}
+use Rattle.std.proofs.Math.Seq.{get_or-append_seam}
 use Rattle.std.proofs.lemmas.List.{get_or_append_left}
 use Rattle.logic.specs.Formula.{Formula, tru, fls, lit, and, or, next, until, release}
 use Rattle.formulas.specs.declared.node.Node.{Node}
@@ -16,18 +17,12 @@ grown_front fs (n ∷ ns) k l =
 
 -- a node is made of what stands before it
 same_made : (fs gs : List Formula) (n : Node) (k : ℕ) → Placed k n → ((j : ℕ) → j < k → get_or gs j tru ≡ get_or fs j tru) → made_of gs n ≡ made_of fs n
-same_made fs gs True k p h = refl
-same_made fs gs False k p h = refl
-same_made fs gs (Signal i b) k p h = refl
 same_made fs gs (And a b) k p h = ap₂ and (h a p.0) (h b p.1)
 same_made fs gs (Or a b) k p h = ap₂ or (h a p.0) (h b p.1)
 same_made fs gs (Next a) k p h = ap next (h a p)
 same_made fs gs (Until a b) k p h = ap₂ until (h a p.0) (h b p.1)
 same_made fs gs (Release a b) k p h = ap₂ release (h a p.0) (h b p.1)
-
-last_is : (fs : List Formula) (g : Formula) → get_or (fs ++ (g ∷ [])) (length fs) tru ≡ g
-last_is [] g = refl
-last_is (f ∷ fs) g = last_is fs g
+same_made fs gs _ k p h = refl
 
 grown_at : (fs : List Formula) (ns : List Node) → ((k : ℕ) → k < length ns → Placed (length fs + k) (get_or ns k True))
     → (k : ℕ) → k < length ns → get_or (grown fs ns) (length fs + k) tru ≡ made_of (grown fs ns) (get_or ns k True)
@@ -38,7 +33,7 @@ grown_at fs (n ∷ ns) placed zero l =
     let z : length fs + 0 ≡ length fs = omega arith in
     let s : length fs < length gs = simp length-append (omega arith) in
     ap (λ j. get_or (grown gs ns) j tru) z
-    ∙ grown_front gs ns (length fs) s ∙ last_is fs (made_of fs n)
+    ∙ grown_front gs ns (length fs) s ∙ get_or-append_seam fs (made_of fs n) [] tru
     ∙ sym (same_made fs (grown gs ns) n (length fs) (subst (λ (j : ℕ). Placed j n) z (placed 0 l))
     (λ j h. grown_front gs ns j (omega arith) ∙ get_or_append_left fs (made_of fs n ∷ []) tru j h))
 grown_at fs (n ∷ ns) placed (suc k) l =
@@ -61,14 +56,8 @@ made F (Release a b) = release (F a) (F b)
 
 made_is : (ns : List Node) (n : Node) → made_of (formulas ns) n ≡ made (formula ns) n
 unfolding formula
-made_is ns True = refl
-made_is ns False = refl
-made_is ns (Signal i p) = refl
-made_is ns (And a b) = refl
-made_is ns (Or a b) = refl
 made_is ns (Next a) = refl
-made_is ns (Until a b) = refl
-made_is ns (Release a b) = refl
+made_is ns _ = refl
 
 pub formula_at : (ns : List Node) → Topological ns → (k : ℕ) → k < length ns → formula ns k ≡ made (formula ns) (get_or ns k True)
 unfolding formula formulas

@@ -17,33 +17,23 @@ pub part_below : (k : ℕ) (n : Node) (c : ℕ) → Placed k n → Part n c → 
 part_below k True c p q = absurd q
 part_below k False c p q = absurd q
 part_below k (Signal i b) c p q = absurd q
-part_below k (And a b) c p (inl e) = omega arith
 part_below k (And a b) c p (inr e) = omega arith
-part_below k (Or a b) c p (inl e) = omega arith
 part_below k (Or a b) c p (inr e) = omega arith
 part_below k (Next a) c p e = omega arith
-part_below k (Until a b) c p (inl e) = omega arith
 part_below k (Until a b) c p (inr e) = omega arith
-part_below k (Release a b) c p (inl e) = omega arith
 part_below k (Release a b) c p (inr e) = omega arith
+part_below k _ c p (inl e) = omega arith
 
 pub keeps_part : (k : ℕ) (n : Node) (c : ℕ) → Placed k n → KeepsAt k n c → c ≤ k
-keeps_part k True c p q = absurd q
-keeps_part k False c p q = absurd q
-keeps_part k (Signal i b) c p q = absurd q
-keeps_part k (And a b) c p q = absurd q
-keeps_part k (Or a b) c p q = absurd q
 keeps_part k (Next a) c p (inl e) = omega arith
 keeps_part k (Next a) c p (inr e) = omega arith
 keeps_part k (Until a b) c p e = omega arith
 keeps_part k (Release a b) c p e = omega arith
+keeps_part k _ c p q = absurd q
 
 module _ (G : ℕ → Formula) where
   -- a part's formula is a part of the formula
   part_sub : (n : Node) (c : ℕ) → Part n c → Sub (G c) (made G n)
-  part_sub True c q = absurd q
-  part_sub False c q = absurd q
-  part_sub (Signal i b) c q = absurd q
   part_sub (And a b) c (inl e) = F.and_left (subst (λ (x : ℕ). Sub (G c) (G x)) e F.itself)
   part_sub (And a b) c (inr e) = F.and_right (subst (λ (x : ℕ). Sub (G c) (G x)) e F.itself)
   part_sub (Or a b) c (inl e) = F.or_left (subst (λ (x : ℕ). Sub (G c) (G x)) e F.itself)
@@ -53,12 +43,10 @@ module _ (G : ℕ → Formula) where
   part_sub (Until a b) c (inr e) = F.until_right (subst (λ (x : ℕ). Sub (G c) (G x)) e F.itself)
   part_sub (Release a b) c (inl e) = F.release_left (subst (λ (x : ℕ). Sub (G c) (G x)) e F.itself)
   part_sub (Release a b) c (inr e) = F.release_right (subst (λ (x : ℕ). Sub (G c) (G x)) e F.itself)
+  part_sub _ c q = absurd q
 
   -- and a proper subformula is one of a part's formula
   of_parts : {X : Type 0} (g : Formula) (n : Node) → ((c : ℕ) → Part n c → Sub g (G c) → X) → Proper g (made G n) → X
-  of_parts g True rec p = absurd p
-  of_parts g False rec p = absurd p
-  of_parts g (Signal i b) rec p = absurd p
   of_parts g (And a b) rec (inl q) = rec a (inl refl) q
   of_parts g (And a b) rec (inr q) = rec b (inr refl) q
   of_parts g (Or a b) rec (inl q) = rec a (inl refl) q
@@ -68,48 +56,31 @@ module _ (G : ℕ → Formula) where
   of_parts g (Until a b) rec (inr q) = rec b (inr refl) q
   of_parts g (Release a b) rec (inl q) = rec a (inl refl) q
   of_parts g (Release a b) rec (inr q) = rec b (inr refl) q
+  of_parts g _ rec p = absurd p
 
   -- what a node keeps
   keeps_kept : (f : Formula) (k : ℕ) (n : Node) (c : ℕ) → G k ≡ made G n → Sub (G k) f → KeepsAt k n c → Kept f (G c)
-  keeps_kept f k True c e s q = absurd q
-  keeps_kept f k False c e s q = absurd q
-  keeps_kept f k (Signal i b) c e s q = absurd q
-  keeps_kept f k (And a b) c e s q = absurd q
-  keeps_kept f k (Or a b) c e s q = absurd q
   keeps_kept f k (Next a) c e s (inl h) = subst (Kept f) (sym (ap G h ∙ e)) (a_next (subst (λ x. Sub x f) e s))
   keeps_kept f k (Next a) c e s (inr h) = subst (Kept f) (sym (ap G h)) (an_operand (subst (λ x. Sub x f) e s))
   keeps_kept f k (Until a b) c e s h = subst (Kept f) (sym (ap G h ∙ e)) (an_until (subst (λ x. Sub x f) e s))
   keeps_kept f k (Release a b) c e s h = subst (Kept f) (sym (ap G h ∙ e)) (a_release (subst (λ x. Sub x f) e s))
+  keeps_kept f k _ c e s q = absurd q
 
   next_keeps : (k : ℕ) (n : Node) (a : Formula) → made G n ≡ next a → KeepsAt k n k × ((c : ℕ) × KeepsAt k n c × (G c ≡ a))
-  next_keeps k True a e = let z : ◌≡◌ {A = ℕ} 0 1 = cc in absurd (omega arith)
-  next_keeps k False a e = let z : ◌≡◌ {A = ℕ} 0 1 = cc in absurd (omega arith)
-  next_keeps k (Signal i b) a e = let z : ◌≡◌ {A = ℕ} 0 1 = cc in absurd (omega arith)
-  next_keeps k (And x y) a e = let z : ◌≡◌ {A = ℕ} 0 1 = cc in absurd (omega arith)
-  next_keeps k (Or x y) a e = let z : ◌≡◌ {A = ℕ} 0 1 = cc in absurd (omega arith)
   next_keeps k (Next x) a e = (inl refl, (x, inr refl, (cc)))
-  next_keeps k (Until x y) a e = let z : ◌≡◌ {A = ℕ} 0 1 = cc in absurd (omega arith)
-  next_keeps k (Release x y) a e = let z : ◌≡◌ {A = ℕ} 0 1 = cc in absurd (omega arith)
+  next_keeps k _ a e = cc
 
   until_keeps : (k : ℕ) (n : Node) (a b : Formula) → made G n ≡ until a b → KeepsAt k n k
-  until_keeps k True a b e = let z : ◌≡◌ {A = ℕ} 0 1 = cc in absurd (omega arith)
-  until_keeps k False a b e = let z : ◌≡◌ {A = ℕ} 0 1 = cc in absurd (omega arith)
-  until_keeps k (Signal i p) a b e = let z : ◌≡◌ {A = ℕ} 0 1 = cc in absurd (omega arith)
-  until_keeps k (And x y) a b e = let z : ◌≡◌ {A = ℕ} 0 1 = cc in absurd (omega arith)
-  until_keeps k (Or x y) a b e = let z : ◌≡◌ {A = ℕ} 0 1 = cc in absurd (omega arith)
   until_keeps k (Next x) a b e = inl refl
   until_keeps k (Until x y) a b e = refl
   until_keeps k (Release x y) a b e = refl
+  until_keeps k _ a b e = cc
 
   release_keeps : (k : ℕ) (n : Node) (a b : Formula) → made G n ≡ release a b → KeepsAt k n k
-  release_keeps k True a b e = let z : ◌≡◌ {A = ℕ} 0 1 = cc in absurd (omega arith)
-  release_keeps k False a b e = let z : ◌≡◌ {A = ℕ} 0 1 = cc in absurd (omega arith)
-  release_keeps k (Signal i p) a b e = let z : ◌≡◌ {A = ℕ} 0 1 = cc in absurd (omega arith)
-  release_keeps k (And x y) a b e = let z : ◌≡◌ {A = ℕ} 0 1 = cc in absurd (omega arith)
-  release_keeps k (Or x y) a b e = let z : ◌≡◌ {A = ℕ} 0 1 = cc in absurd (omega arith)
   release_keeps k (Next x) a b e = inl refl
   release_keeps k (Until x y) a b e = refl
   release_keeps k (Release x y) a b e = refl
+  release_keeps k _ a b e = cc
 
   -- membership by place
   at_mem : (xs : List ℕ) (j : ℕ) → j < length xs → Memᴰ (G (get_or xs j 0)) (map G xs)

@@ -4,4 +4,3 @@ pub mod Steps
 pub mod Marking
 pub mod Differ
 pub mod Placed
-pub mod Parts

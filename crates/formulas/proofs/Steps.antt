@@ -1,16 +1,19 @@
 -- One node, one bit. Assumes nothing.
-use Rattle.std.proofs.Common.{◌≡◌, ℕ, zero, suc, ◌+◌, ◌-◌, ◌*◌, ◌^◌, ◌<◌, ◌≤◌, Bool, true, false, cond, ◌&&◌, ◌||◌, List, [], ◌∷◌, map, length, get_or, drop, set, sym, refl, ap, ◌∙◌, subst, ap₂, inl, inr, ⊎_elim, arith, length-drop, length-set, drop-cons, get_or-set_other, get_or-set_same, pow_mono}
+use Rattle.std.proofs.Common.{◌≡◌, ℕ, suc, ◌+◌, ◌^◌, ◌<◌, ◌≤◌, Bool, true, false, ◌&&◌, ◌||◌, List, [], ◌∷◌, ◌++◌, map, length, get_or, set, sym, refl, ap, ◌∙◌, subst, ap₂, inl, inr, ⊎_elim, arith, length-append, length-set, get_or-set_other, get_or-set_same, pow_mono}
 use mathlib.Core.Logic.{∥∥₁_elim}
 use native.Mathlib.Nat.{ℕ_set}
 use mir.Val.{bool_byte}
 use Rattle.std.proofs.lemmas.Bool.{cases_eq}
+use Rattle.std.proofs.lemmas.Grind.{common_steps}
+use Rattle.std.proofs.lemmas.List.{length-map, get_or-map}
+use Rattle.std.proofs.lemmas.Simd.{map-map}
 use Rattle.logic.specs.Formula.{Formula, on}
 use Rattle.logic.specs.Sat.{sat}
 use Rattle.logic.specs.Labels.{label}
 use Rattle.logic.specs.Masks.{mask}
 use Rattle.logic.proofs.Masks.{masks_are_right}
 use Rattle.formulas.specs.declared.node.Node.{Node}
-use Rattle.formulas.specs.declared.node.Node.TheVariants.{True, False, Signal, And, Or, Next, Until, Release}
+use Rattle.formulas.specs.declared.node.Node.TheVariants.{True, And, Or, Next, Until, Release}
 use Rattle.formulas.specs.Nodes.{formula, Topological}
 use Rattle.formulas.specs.Keeps.{Part, Under, top, down, KeepsAt, KeptNode, root, at, Keeps, kept_formulas, Before}
 use Rattle.formulas.specs.Values.{value, Spread, Valued}
@@ -21,9 +24,6 @@ use Rattle.formulas.proofs.Kept.{part_below}
 module _ (G : ℕ → Formula) (s : ℕ) (w : List ℕ) (was holds : List Bool) where
   value_is : (k : ℕ) (n : Node) → G k ≡ made G n → ((c : ℕ) → Part n c → get_or holds c false ≡ sat (G c) (s ∷ w))
       → ((c : ℕ) → KeepsAt k n c → get_or was c false ≡ sat (G c) w) → value s was holds k n ≡ sat (made G n) (s ∷ w)
-  value_is k True e h t = refl
-  value_is k False e h t = refl
-  value_is k (Signal i p) e h t = refl
   value_is k (And a b) e h t = ap₂ ◌&&◌ (h a (inl refl)) (h b (inr refl))
   value_is k (Or a b) e h t = ap₂ ◌||◌ (h a (inl refl)) (h b (inr refl))
   value_is k (Next a) e h t = t a (inr refl)
@@ -31,6 +31,7 @@ module _ (G : ℕ → Formula) (s : ℕ) (w : List ℕ) (was holds : List Bool) 
       let x = h a (inl refl) in let y = h b (inr refl) in let z = t k refl ∙ ap (λ g. sat g w) e in cc
   value_is k (Release a b) e h t =
       let x = h a (inl refl) in let y = h b (inr refl) in let z = t k refl ∙ ap (λ g. sat g w) e in cc
+  value_is k _ e h t = refl
 
 pub valued_more : (ns : List Node) → Topological ns → (s : ℕ) (was : List Bool) (n : ℕ) (holds : List Bool) (b : Bool) → n < length ns
     → b ≡ value s was holds n (get_or ns n True) → Valued ns s was n holds → Valued ns s was (n + 1) (set holds n b)
@@ -54,28 +55,8 @@ pub spread_more : (xs : List ℕ) (n label : ℕ) (was : List Bool) (b : Bool) �
     → Spread xs n label was → Spread xs (n + 1) label (set was (get_or xs n 0) b)
 spread_more xs n lab was b l small e v = record {
   size = simp length-set v.size;
-  at = λ p h j below.
-      let x = get_or xs n 0 in
-      let fits : x < length was = omega (arith, v.size) in
-      let here : get_or (set was x b) x false ≡ p x = get_or-set_same was x b false fits ∙ e ∙ h n l in
-      ⊎_elim
-      (λ (q : get_or xs j 0 ≡ x). ap (λ (i : ℕ). get_or (set was x b) i false) q ∙ here ∙ ap p (sym q))
-      (λ q. get_or-set_other was x (get_or xs j 0) b false q ∙ v.at p h j (⊎_elim (λ (d : j ≡ n). absurd (q (ap (λ (i : ℕ). get_or xs i 0) d))) (λ d. omega arith) (cases_eq j n)))
-      (cases_eq (get_or xs j 0) x);
+  at = λ p h j below. let s = v.size in let a = v.at p h in let here = h n l in grind (arith, common_steps, get_or-set_other, a);
 }
-
-map_at : (p : ℕ → Bool) (xs : List ℕ) (j : ℕ) → j < length xs → get_or (map p xs) j false ≡ p (get_or xs j 0)
-map_at p [] j l = absurd (omega arith)
-map_at p (x ∷ xs) zero l = refl
-map_at p (x ∷ xs) (suc j) l = map_at p xs j (omega arith)
-
-pub map_length : {A : Type 0} (p : ℕ → A) (xs : List ℕ) → length (map p xs) ≡ length xs
-map_length p [] = refl
-map_length p (x ∷ xs) = ap suc (map_length p xs)
-
-map_map : (p : Formula → Bool) (q : ℕ → Formula) (xs : List ℕ) → map p (map q xs) ≡ map (λ x. p (q x)) xs
-map_map p q [] = refl
-map_map p q (x ∷ xs) = ap {B = List Bool} (λ r. p (q x) ∷ r) (map_map p q xs)
 
 map_same_at : (p q : ℕ → Bool) (xs : List ℕ) → ((j : ℕ) → j < length xs → p (get_or xs j 0) ≡ q (get_or xs j 0)) → map p xs ≡ map q xs
 map_same_at p q [] h = refl
@@ -85,25 +66,21 @@ map_same_at p q (x ∷ xs) h = ap₂ ◌∷◌ (h 0 (omega arith)) (map_same_at 
 pub label_bit : (ns : List Node) (xs : List ℕ) (w : List ℕ) (j : ℕ) → j < length xs
     → on j (mask (label (kept_formulas ns xs) w)) ≡ sat (formula ns (get_or xs j 0)) w
 label_bit ns xs w j l =
-    let e : label (kept_formulas ns xs) w ≡ map (λ x. sat (formula ns x) w) xs = map_map (λ g. sat g w) (formula ns) xs in
+    let e : label (kept_formulas ns xs) w ≡ map (λ x. sat (formula ns x) w) xs = map-map (λ g. sat g w) (formula ns) xs in
     ap (λ b. on j (mask b)) e
-    ∙ (masks_are_right (map (λ x. sat (formula ns x) w) xs)).bit j (omega (arith, map_length (λ x. sat (formula ns x) w) xs))
-    ∙ map_at (λ x. sat (formula ns x) w) xs j l
+    ∙ (masks_are_right (map (λ x. sat (formula ns x) w) xs)).bit j (omega (arith, length-map xs (λ x. sat (formula ns x) w)))
+    ∙ get_or-map (λ x. sat (formula ns x) w) xs j 0 false l
 
 kept_under : {ns : List Node} {r k : ℕ} → Topological ns → r < length ns → KeptNode ns r k → Under ns r k
 kept_under {ns} {r} ordered l root = top
 kept_under {ns} {r} ordered l (at {k = k} {c = c} u p) = go (get_or ns k True) refl (subst (λ n. KeepsAt k n c) refl p)
   where
     go : (n : Node) → get_or ns k True ≡ n → KeepsAt k n c → Under ns r c
-    go True e q = absurd q
-    go False e q = absurd q
-    go (Signal i b) e q = absurd q
-    go (And a b) e q = absurd q
-    go (Or a b) e q = absurd q
     go (Next a) e (inl q) = subst (Under ns r) (sym q) u
     go (Next a) e (inr q) = down u (subst (λ n. Part n c) (sym e) q)
     go (Until a b) e q = subst (Under ns r) (sym q) u
     go (Release a b) e q = subst (Under ns r) (sym q) u
+    go _ e q = absurd q
 
 before_is : (ns : List Node) → Topological ns → (r : ℕ) → r < length ns → (xs : List ℕ) → Keeps ns r xs → (s old : ℕ) (was holds : List Bool)
     → Spread xs (length xs) old was → Valued ns s was (length ns) holds → Before ns xs s old (mask (map (λ k. get_or holds k false) xs))
@@ -116,7 +93,7 @@ before_is ns ordered r l xs ks s old was holds sp v = record {
       ap mask
       (map_same_at (λ k. get_or holds k false) (λ k. sat (formula ns k) (s ∷ w)) xs
       (λ j h. v.at r w l wr (get_or xs j 0) (ks.below j h) (kept_under ordered l (ks.are j h)))
-      ∙ sym (map_map (λ g. sat g (s ∷ w)) (formula ns) xs));
+      ∙ sym (map-map (λ g. sat g (s ∷ w)) (formula ns) xs));
 }
 
 -- the same where the nodes and the kept numbers are parts of longer lists
@@ -131,34 +108,23 @@ label_step ns ms xs ys p q ordered r l keeps s old new was holds sp v e = record
       ∙ ∥∥₁_elim keeps (ℕ_set _ _) (λ k. (before_is ns ordered r l xs k s old was holds sp2 v2).is w h);
 }
 
--- one bit more in front
-pub mask_more : (xs : List ℕ) (h : List Bool) (j : ℕ) → j < length xs
-    → mask (map (λ k. get_or h k false) (drop j xs)) ≡ cond (get_or h (get_or xs j 0) false) 1 0 + 2 * mask (map (λ k. get_or h k false) (drop (suc j) xs))
-mask_more xs h j l = ap (λ ys. mask (map (λ k. get_or h k false) ys)) (drop-cons xs j 0 l)
-
-one_bit : (b : Bool) → bool_byte b ≡ cond b 1 0
-one_bit true = refl
-one_bit false = refl
+-- the label of what follows `rest` in xs
+pub record Gathered (xs : List ℕ) (h : List Bool) (rest : List ℕ) (lab : ℕ) : Type 0 where
+  pub after : List ℕ
+  pub are : xs ≡ rest ++ after
+  pub is : lab ≡ mask (map (λ k. get_or h k false) after)
 
 pub bit_small : (b : Bool) → bool_byte b ≤ 1
 bit_small true = omega arith
 bit_small false = omega arith
 
-pub gather_more : (xs : List ℕ) (h : List Bool) (j lab : ℕ) → 0 < j → j ≤ length xs → lab ≡ mask (map (λ k. get_or h k false) (drop j xs))
-    → lab * 2 + bool_byte (get_or h (get_or xs (j - 1) 0) false) ≡ mask (map (λ k. get_or h k false) (drop (j - 1) xs))
-gather_more xs h j lab pos l e =
-    let i = j - 1 in
-    let s : suc i ≡ j = omega arith in
-    let il : i < length xs = omega arith in
-    let m = mask_more xs h i il in
-    let e2 : lab ≡ mask (map (λ k. get_or h k false) (drop (suc i) xs)) = e ∙ ap (λ (q : ℕ). mask (map (λ k. get_or h k false) (drop q xs))) (sym s) in
-    let b = one_bit (get_or h (get_or xs i 0) false) in
-    omega (arith, m, e2, b)
-
-pub gather_fits : (xs : List ℕ) (h : List Bool) (j lab : ℕ) → 0 < j → length xs ≤ 32 → lab ≡ mask (map (λ k. get_or h k false) (drop j xs)) → lab < 2147483648
-gather_fits xs h j lab pos l e =
-    let bs = map (λ k. get_or h k false) (drop j xs) in
+pub gather_fits : {xs : List ℕ} {h : List Bool} {rest : List ℕ} {lab : ℕ} (front : List ℕ) (x : ℕ) → rest ≡ front ++ x ∷ []
+    → length xs ≤ 32 → Gathered xs h rest lab → lab < 2147483648
+gather_fits {xs} {h} {rest} {lab} front x e l g =
+    let bs = map (λ k. get_or h k false) g.after in
     let s = (masks_are_right bs).small in
-    let n : length bs ≡ length xs - j = map_length (λ k. get_or h k false) (drop j xs) ∙ length-drop j xs in
+    let n : length bs ≡ length g.after = length-map g.after (λ k. get_or h k false) in
+    let m : length xs ≡ length rest + length g.after = ap length g.are ∙ length-append rest g.after in
+    let r : length rest ≡ length front + 1 = ap length e ∙ length-append front (x ∷ []) in
     let p : 2 ^ length bs ≤ 2 ^ 31 = pow_mono {i = length bs} {j = 31} (omega arith) in
-    omega (arith, s, p, e)
+    omega (arith, s, p, g.is)

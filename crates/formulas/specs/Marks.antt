@@ -43,13 +43,13 @@ pub record Marked (ns : List Node) (r : ℕ) (fs : List Bool) : Type 0 where
   pub right : (c : ℕ) → slice_index_or fs c false ≡ true → KeptNode ns r c
   pub whole : (c : ℕ) → KeptNode ns r c → slice_index_or fs c false ≡ true
 
--- the first m of xs are the marked numbers below n, in order
-pub record Picked (fs : List Bool) (n : ℕ) (xs : List ℕ) (m : ℕ) : Type 0 where
-  pub few : m ≤ 32
-  pub below : (j : ℕ) → j < m → slice_index xs j < n
-  pub rising : (i j : ℕ) → i < j → j < m → slice_index xs i < slice_index xs j
-  pub are : (j : ℕ) → j < m → slice_index_or fs (slice_index xs j) false ≡ true
-  pub all : (k : ℕ) → k < n → slice_index_or fs k false ≡ true → (j : ℕ) × (j < m) × (slice_index xs j ≡ k)
+-- xs are the marked numbers below n, in order, and there are at most 32
+pub record Picked (fs : List Bool) (n : ℕ) (xs : List ℕ) : Type 0 where
+  pub few : length xs ≤ 32
+  pub below : (j : ℕ) → j < length xs → slice_index xs j < n
+  pub rising : (i j : ℕ) → i < j → j < length xs → slice_index xs i < slice_index xs j
+  pub are : (j : ℕ) → j < length xs → slice_index_or fs (slice_index xs j) false ≡ true
+  pub all : (k : ℕ) → k < n → slice_index_or fs k false ≡ true → (j : ℕ) × (j < length xs) × (slice_index xs j ≡ k)
 
 -- 33 marked numbers
 pub record Beyond (fs : List Bool) : Type 0 where

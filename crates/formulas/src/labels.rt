@@ -13,8 +13,8 @@ pub(crate) fn spread(keep: &[u16], label: u32) -> [bool; 256]
     ensures { Spread keep.now (length keep.now) label result }
 {
     let mut was = [false; 256];
-    for j in 0..keep.len() {
-        was[keep[j] as usize] = (label >> j) % 2 == 1;
+    for (j, number) in keep.iter().enumerate() {
+        was[*number as usize] = (label >> j) % 2 == 1;
     }
     was
 }
@@ -43,8 +43,8 @@ pub(crate) fn values(nodes: &[Node], letter: u8, was: &[bool; 256]) -> [bool; 25
     ensures { Valued nodes.now letter was.now (length nodes.now) result }
 {
     let mut holds = [false; 256];
-    for k in 0..nodes.len() {
-        holds[k] = value_of(nodes[k], k, letter, was, &holds);
+    for (k, node) in nodes.iter().enumerate() {
+        holds[k] = value_of(*node, k, letter, was, &holds);
     }
     holds
 }
@@ -56,8 +56,8 @@ pub(crate) fn gather(keep: &[u16], holds: &[bool; 256]) -> u32
     ensures { result ≡ mask (map (λ k. slice_index_or holds.now k false) keep.now) }
 {
     let mut label = 0u32;
-    for j in (0..keep.len()).rev() {
-        label = label * 2 + holds[keep[j] as usize] as u32;
+    for number in keep.iter().rev() {
+        label = label * 2 + holds[*number as usize] as u32;
     }
     label
 }

@@ -1,9 +1,9 @@
 // A formula in normal form; operands go by their numbers in the list of nodes.
 ghost use Rattle.std.specs.Prelude.{◌≡◌, Decides};
+ghost use Rattle.formulas.specs.declared.node.Node.{Node};
 ghost use Rattle.formulas.specs.Same.{same_node};
-ghost use Rattle.formulas.specs.SameLaws.{same_node_laws};
 
-#[derive(Clone, Copy)]
+#[derive(Clone, Copy, Debug, PartialEq, Eq)]
 pub enum Node {
     True,
     False,
@@ -16,48 +16,11 @@ pub enum Node {
     Release(u16, u16),
 }
 
-impl PartialEq for Node {
-    ghost eq = { same_node };
-
-    ghost laws = { same_node_laws };
-
-    fn eq(&self, other: &Node) -> bool
-        ensures value { result ≡ same_node self.now other.now }
-        ensures decides { Decides result (self.now ≡ other.now) }
-    {
-        match *self {
-            Node::True => match *other {
-                Node::True => true,
-                _ => false,
-            },
-            Node::False => match *other {
-                Node::False => true,
-                _ => false,
-            },
-            Node::Signal { index, on } => match *other {
-                Node::Signal { index: i, on: p } => index == i && on == p,
-                _ => false,
-            },
-            Node::And(a, b) => match *other {
-                Node::And(c, d) => a == c && b == d,
-                _ => false,
-            },
-            Node::Or(a, b) => match *other {
-                Node::Or(c, d) => a == c && b == d,
-                _ => false,
-            },
-            Node::Next(a) => match *other {
-                Node::Next(c) => a == c,
-                _ => false,
-            },
-            Node::Until(a, b) => match *other {
-                Node::Until(c, d) => a == c && b == d,
-                _ => false,
-            },
-            Node::Release(a, b) => match *other {
-                Node::Release(c, d) => a == c && b == d,
-                _ => false,
-            },
-        }
-    }
+// Whether two nodes are the same, which `==` on nodes says.
+pub fn is_same(node: &Node, other: &Node) -> bool
+    ensures value { result ≡ same_node node.now other.now }
+    ensures decides { Decides result (node.now ≡ other.now) }
+    ensures equality { (x y : Node) → ⟦<Node as PartialEq>⟧.eq x y ≡ same_node x y }
+{
+    *node == *other
 }

@@ -1,8 +1,10 @@
 -- Stored nodes as a list of formulas in order, and how many are kept of one.
-use Rattle.std.proofs.Common.{◌≡◌, ℕ, zero, suc, ◌<◌, ◌≤◌, List, length, get_or, take, Some, None, Option, sym, refl, ap, ◌∙◌, subst, ap₂, arith, length-take, MatchOption}
+use Rattle.std.proofs.Common.{◌≡◌, ℕ, zero, suc, ◌<◌, ◌≤◌, List, length, get_or, Some, None, Option, sym, refl, ap, ◌∙◌, subst, ap₂, arith, MatchOption}
 use mathlib.Core.Logic.{∥∥₁_elim, ∥∥₁_map}
 use mathlib.Core.HLevel.{⊥_prop}
 use native.Mathlib.Bridge.{le_prop}
+use Rattle.fixed.specs.Held.{held}
+use Rattle.fixed.proofs.Held.{held_fits}
 use Rattle.logic.specs.Formula.{Formula, tru, next, and, or, until, release}
 use Rattle.logic.specs.Labels.{kept}
 use Rattle.formulas.specs.declared.node.Node.{Node}
@@ -15,7 +17,6 @@ use Rattle.formulas.proofs.Formulas.{made, formula_at}
 use Rattle.formulas.proofs.Kept.{part_below}
 use Rattle.formulas.proofs.Placed.{topological}
 use Rattle.formulas.proofs.Differ.{many_kept, few_kept, not_many}
-use Rattle.fixed.proofs.Held.{held_fits}
 use Rattle.rules.specs.declared.store.Store.{Store}
 use Rattle.rules.specs.Nodes.{Means, Longer}
 use Rattle.rules.specs.Stored.{nodes_held}
@@ -63,18 +64,15 @@ pub store_topological : (s : Store) → Topological (nodes_held s)
 store_topological s = topological (nodes_held s) (held_fits s.nodes) s.ordered s.signals
 
 pub breach_at : (nodes : List Node) (k : ℕ) (r : Option BreachFormula) → Topological nodes → k < length nodes
-    → (ns : List Node) → ns ≡ nodes → MatchOption r (Topological ns → k < length ns → ManyKept ns k) (λ b. (take b.len b.nodes ≡ ns) × (b.root ≡ k)) → MatchOption r (ManyKept nodes k) (BreachAt nodes k)
-breach_at nodes k r t h ns e c = made r (subst (λ (xs : List Node). MatchOption r (Topological xs → k < length xs → ManyKept xs k) (λ b. (take b.len b.nodes ≡ xs) × (b.root ≡ k))) e c)
+    → (ns : List Node) → ns ≡ nodes → MatchOption r (Topological ns → k < length ns → ManyKept ns k) (λ b. (held b.nodes ≡ ns) × (b.root ≡ k)) → MatchOption r (ManyKept nodes k) (BreachAt nodes k)
+breach_at nodes k r t h ns e c = made r (subst (λ (xs : List Node). MatchOption r (Topological xs → k < length xs → ManyKept xs k) (λ b. (held b.nodes ≡ xs) × (b.root ≡ k))) e c)
   where
-    few_of : (b : BreachFormula) → length (take b.count b.kept) ≤ 32
-    few_of b = let f = b.few in let l = length-take b.count b.kept in omega arith
-
-    made : (r : Option BreachFormula) → MatchOption r (Topological nodes → k < length nodes → ManyKept nodes k) (λ b. (take b.len b.nodes ≡ nodes) × (b.root ≡ k)) → MatchOption r (ManyKept nodes k) (BreachAt nodes k)
+    made : (r : Option BreachFormula) → MatchOption r (Topological nodes → k < length nodes → ManyKept nodes k) (λ b. (held b.nodes ≡ nodes) × (b.root ≡ k)) → MatchOption r (ManyKept nodes k) (BreachAt nodes k)
     made None c = c t h
     made (Some b) c = record {
       nodes_are = c.0;
       root_is = c.1;
-      few = ∥∥₁_map b.keeps (λ x. (take b.count b.kept, subst (λ (r : ℕ). Keeps nodes r (take b.count b.kept)) c.1 (subst (λ (ns : List Node). Keeps ns b.root (take b.count b.kept)) c.0 x), few_of b));
+      few = ∥∥₁_map b.keeps (λ x. (held b.kept, subst (λ (r : ℕ). Keeps nodes r (held b.kept)) c.1 (subst (λ (ns : List Node). Keeps ns b.root (held b.kept)) c.0 x), held_fits b.kept));
     }
 
 -- ---- what is kept stays when nodes are added

@@ -1,6 +1,7 @@
 -- How many formulas are kept of a stored formula. Assumes nothing.
-use Rattle.std.specs.Prelude.{◌≡◌, ℕ, ◌≤◌, List, length, take}
+use Rattle.std.specs.Prelude.{◌≡◌, ℕ, ◌≤◌, List, length}
 use Rattle.logic.specs.Formula.{Formula}
+use Rattle.fixed.specs.Held.{held}
 use Rattle.formulas.specs.declared.node.Node.{Node}
 use Rattle.formulas.specs.declared.breach.BreachFormula.{BreachFormula}
 use Rattle.formulas.specs.Nodes.{formula}
@@ -13,10 +14,10 @@ FewKept nodes k = ManyKept nodes k → ⊥
 
 -- b is the breach formula with number k among the nodes
 pub record BreachAt (nodes : List Node) (k : ℕ) (b : BreachFormula) : Type 0 where
-  pub nodes_are : take b.len b.nodes ≡ nodes
+  pub nodes_are : held b.nodes ≡ nodes
   pub root_is : b.root ≡ k
   pub few : ∥ ((xs : List ℕ) × Keeps nodes k xs × (length xs ≤ 32)) ∥₁
 
 -- the formula that a breach formula is
 abbrev pub formula_of : BreachFormula → Formula
-formula_of b = formula (take b.len b.nodes) b.root
+formula_of b = formula (held b.nodes) b.root

@@ -1,6 +1,5 @@
-use Rattle.std.proofs.Common.{◌≡◌, false, map, get_or, drop}
-use Rattle.logic.specs.Masks.{mask}
+use Rattle.formulas.proofs.Steps.{Gathered}
 use Rattle.formulas.proofs.labels.gather.Given as goal
 
-abbrev pub invariant-loop-j : goal.invariant-loop-j
-invariant-loop-j l = l.label ≡ mask (map (λ k. get_or l.holds k false) (drop l.j l.keep))
+abbrev pub invariant-loop-number : goal.invariant-loop-number
+invariant-loop-number l = Gathered l.keep l.holds l.number-iterator.iter.rest.now l.label

@@ -1,24 +1,26 @@
-use Rattle.std.proofs.Common.{◌≡◌, ℕ, ◌-◌, Bool, false, List, get_or, replicate, sym, refl, subst, arith, rules}
-use Rattle.formulas.specs.declared.node.Node.TheVariants.{True}
-use Rattle.formulas.specs.Marks.{Marking, mark_parts, mark_kept}
-use Rattle.formulas.proofs.Marking.{marking_start, marking_on, marked, none_marked}
+use Rattle.std.proofs.Common.{false, replicate, refl, rules}
+use Rattle.formulas.proofs.Marking.{marking_start, last_placed, behind_start, behind_on, behind_off, behind_done, none_marked}
 use Rattle.formulas.proofs.marks.mark.Goals as goal
 
 pub loop-k-init : goal.loop-k-init
-loop-k-init c = marking_start c.args.nodes.now c.args.root (replicate 256 false) c.requires.ordered c.requires.root refl (none_marked 256)
+loop-k-init c =
+    behind_start (search rules) (search rules) (marking_start c.args.nodes.now c.args.root (replicate 256 false) c.requires.ordered c.requires.root refl (none_marked 256))
+
+pub mark_node-requires-clause-placed : goal.mark_node-requires-clause-placed
+mark_node-requires-clause-placed c =
+    let s = c.in-Some.ensures.steps.1 in
+    last_placed _ c.in-Some.node.now s.0 c.loop-k.invariant c.requires.ordered c.in-Some.k s.1
 
 pub loop-k-preserved-then-under-k : goal.loop-k-preserved-then-under-k
 loop-k-preserved-then-under-k c =
-    let ns = c.args.nodes.now in
-    let k = c.loop-k.k - 1 in
-    let u : c.mark_node.new.under ≡ mark_parts c.loop-k.under (get_or c.args.nodes.now (c.loop-k.k - 1) True) = search rules in
-    let f : c.mark_node.new.flags ≡ mark_kept (c.loop-k.k - 1) c.loop-k.flags (get_or c.args.nodes.now (c.loop-k.k - 1) True) = search rules in
-    subst (λ (us : List Bool). Marking ns c.args.root k us c.mark_node.new.flags) (sym u)
-    (subst (λ (fs : List Bool). Marking ns c.args.root k (mark_parts c.loop-k.under (get_or ns k True)) fs) (sym f)
-    (marking_on ns c.args.root c.requires.ordered c.loop-k.k c.loop-k.under c.loop-k.flags c.loop-k-test.true c.loop-k.auto.k c.if-under-k.true c.loop-k.invariant))
+    let s = c.in-Some.ensures.steps in
+    let b = behind_on _ c.in-Some.node.now s.1.0 c.loop-k.invariant c.requires.ordered c.in-Some.k _ s.1.1 s.0 c.if-under-k.true in
+    rw (c.mark_node.ensures.under, c.mark_node.ensures.flags) b
+
+pub loop-k-preserved : goal.loop-k-preserved
+loop-k-preserved c =
+    let s = c.in-Some.ensures.steps in
+    behind_off _ c.in-Some.node.now s.1.0 c.loop-k.invariant c.requires.ordered c.in-Some.k _ s.1.1 s.0 c.if-under-k.false
 
 pub returns : goal.returns
-returns c =
-    let z : ◌≡◌ {A = ℕ} c.loop-k.k 0 = omega arith in
-    marked c.args.nodes.now c.args.root c.requires.ordered c.loop-k.under c.loop-k.flags
-    (subst (λ (j : ℕ). Marking c.args.nodes.now c.args.root j c.loop-k.under c.loop-k.flags) z c.loop-k.invariant)
+returns c = behind_done c.requires.ordered c.loop-k.invariant c.in-None.ensures.steps.1.0

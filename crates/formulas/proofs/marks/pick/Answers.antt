@@ -1,28 +1,19 @@
-use Rattle.std.proofs.Common.{ℕ, ◌+◌, ◌<◌, List, set, sym, subst, arith}
-use Rattle.formulas.specs.Marks.{Picked}
+use Rattle.std.proofs.Common.{arith}
+use Rattle.fixed.specs.Held.{held}
 use Rattle.formulas.proofs.Marking.{picked_more, picked_skip, beyond}
 use Rattle.formulas.proofs.marks.pick.Goals as goal
-use Rattle.formulas.proofs.marks.pick.Goals.{then-flags-k+else-m-eq32, else-flags-k}
+use Rattle.formulas.proofs.marks.pick.Goals.{then-flag+in_ok-push, else-flag}
 
-pub returns-then-m-eq32 : goal.returns-then-m-eq32
-returns-then-m-eq32 c =
-    beyond c.args.flags.now c.loop-k.k c.loop-k.out c.if-flags-k.true
-    (subst (λ (m : ℕ). Picked c.args.flags.now c.loop-k.k c.loop-k.out m) c.if-m-eq32.true c.loop-k.invariant.0)
+pub returns-in_err-push : goal.returns-in_err-push
+returns-in_err-push c =
+    rw c.from_residual.ensures
+    (beyond c.loop-k.invariant c.args.n c.in_err-push.ensures.0 c.loop-k-test.true c.if-flag.true)
 
 pub loop-k-preserved : goal.loop-k-preserved
 loop-k-preserved c =
-    let fs = c.args.flags.now in
-    let i = c.loop-k.invariant in (
-      elim c.if-flags-k.branch [
-        | then-flags-k+else-m-eq32 w ↦
-            let small : c.loop-k.m < 32 = omega (arith, i.0.few, w.if-m-eq32.false) in
-            subst (λ (xs : List ℕ). Picked fs (c.loop-k.k + 1) xs c.if-flags-k.m) (sym w.out-is)
-            (subst (λ (m : ℕ). Picked fs (c.loop-k.k + 1) (set c.loop-k.out c.loop-k.m c.loop-k.k) m) (sym w.m-is)
-            (picked_more fs c.loop-k.k c.loop-k.out c.loop-k.m small i.1 w.if-flags-k.true i.0))
-        | else-flags-k w ↦
-            subst (λ (xs : List ℕ). Picked fs (c.loop-k.k + 1) xs c.if-flags-k.m) (sym w.out-is)
-            (subst (λ (m : ℕ). Picked fs (c.loop-k.k + 1) c.loop-k.out m) (sym w.m-is)
-            (picked_skip fs c.loop-k.k c.loop-k.out c.loop-k.m w.if-flags-k.false i.0))
-      ],
-      c.if-flags-k.array_long,
-    )
+    elim c.if-flag.branch [
+      | then-flag+in_ok-push w ↦
+          let e = w.in_ok-push.ensures in
+          rw (w.numbers-is, e.2) (picked_more c.loop-k.invariant c.args.n (omega (arith, e)) c.loop-k-test.true w.if-flag.true)
+      | else-flag w ↦ rw w.numbers-is (picked_skip c.args.n c.args.flags.now c.loop-k.k (held c.loop-k.numbers) c.loop-k-test.true w.if-flag.false c.loop-k.invariant)
+    ]
