@@ -3,6 +3,8 @@ use Rattle.std.proofs.Common.{◌≡◌, ℕ, zero, suc, ◌<◌, ◌≤◌, Lis
 use mathlib.Core.Logic.{∥∥₁_elim, ∥∥₁_map}
 use mathlib.Core.HLevel.{⊥_prop}
 use native.Mathlib.Bridge.{le_prop}
+use Rattle.fixed.specs.Held.{held}
+use Rattle.fixed.proofs.Held.{held_fits}
 use Rattle.logic.specs.Formula.{Formula, tru, next, and, or, until, release}
 use Rattle.logic.specs.Labels.{kept}
 use Rattle.formulas.specs.declared.node.Node.{Node}
@@ -15,8 +17,6 @@ use Rattle.formulas.proofs.Formulas.{made, formula_at}
 use Rattle.formulas.proofs.Kept.{part_below}
 use Rattle.formulas.proofs.Placed.{topological}
 use Rattle.formulas.proofs.Differ.{many_kept, few_kept, not_many}
-use Rattle.fixed.specs.Held.{held}
-use Rattle.fixed.proofs.Held.{held_fits}
 use Rattle.rules.specs.declared.store.Store.{Store}
 use Rattle.rules.specs.Nodes.{Means, Longer}
 use Rattle.rules.specs.Stored.{nodes_held}

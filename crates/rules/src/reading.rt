@@ -69,6 +69,7 @@ impl Reader {
                 let (a, end) = self.read(after, depth - 1, sign, store)?;
                 Ok((store.intern_next(a), end))
             }
+            // Kept: F and G differ in a leaf and an operator; one arm for both needs a further enum, which is no plainer.
             Word::One(Unary::Finally) => {
                 let always = store.intern(sign.leaf(Leaf::True));
                 let (b, end) = self.read(after, depth - 1, sign, store)?;

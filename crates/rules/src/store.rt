@@ -10,6 +10,7 @@ pub mod build;
 pub mod intern;
 
 // Up to 256 nodes, each once, operands before what they are operands of.
+// Kept: a node goes by its number, since a sheet has no heap and is copied in fixed memory.
 #[derive(Clone, Copy)]
 pub struct Store {
     nodes: FixedList<Node, 256>,

@@ -1,10 +1,10 @@
 // The words of a rule text.
-ghost use Rattle.std.specs.Prelude.{◌≡◌, ◌-◌, length, drop};
+ghost use Rattle.std.specs.Prelude.{◌≡◌, ◌-◌, ◌≤◌, length, drop};
 ghost use Rattle.rules.specs.Names.{names_held};
+ghost use Rattle.texts.specs.Places.{length_to};
 ghost use Rattle.texts.specs.Words.{operator_word, long_word as long_words, fixed_word, word_of, Heads, Above};
 
 use crate::names::Names;
-use crate::names::look::length_to;
 use meaning::refusals::RuleFault;
 use std::str::from_utf8;
 use texts::words::{Binary, Leaf, Unary, Word};
@@ -46,6 +46,14 @@ pub fn fixed_word(word: &[u8]) -> Option<Word>
         [c] => operator(*c),
         _ => long_word(word),
     }
+}
+
+// How many bytes stand before the first `stop`.
+fn length_to(text: &[u8], stop: u8) -> usize
+    ensures is { result ≡ length_to stop text.now }
+    ensures within { result ≤ length text.now }
+{
+    text.iter().position(|b| *b == stop).unwrap_or(text.len())
 }
 
 // What follows the one space after a word.

@@ -1,17 +1,9 @@
 // Looking names up.
-ghost use Rattle.std.specs.Prelude.{◌≡◌, ◌≤◌, length, Decides};
-ghost use Rattle.texts.specs.Places.{length_to, place_of};
+ghost use Rattle.std.specs.Prelude.{◌≡◌, Decides};
+ghost use Rattle.texts.specs.Places.{place_of};
 ghost use Rattle.rules.specs.Names.{letters_of, names_held};
 
 use crate::names::{Name, Names};
-
-// How many bytes stand before the first `stop`.
-pub fn length_to(text: &[u8], stop: u8) -> usize
-    ensures is { result ≡ length_to stop text.now }
-    ensures within { result ≤ length text.now }
-{
-    text.iter().position(|b| *b == stop).unwrap_or(text.len())
-}
 
 impl Name {
     // Whether this name is spelled so.

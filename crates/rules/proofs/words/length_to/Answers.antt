@@ -1,7 +1,7 @@
 use Rattle.std.proofs.Common.{◌≡◌, ◌<◌, ◌≢◌, length, ◌∙◌, rules, MatchOption}
 use Rattle.std.specs.List.{AllWithin, HoldsAt}
 use Rattle.rules.proofs.OfNames.{length_by}
-use Rattle.rules.proofs.names.look.length_to.Goals as goal
+use Rattle.rules.proofs.words.length_to.Goals as goal
 
 pub returns-clause-is : goal.returns-clause-is
 returns-clause-is c =
