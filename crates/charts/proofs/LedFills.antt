@@ -126,10 +126,3 @@ module _ (f : Formula) (d e : Chart) where
   fills_of fs rule l is (Err NoRule) x = absurd x.refused
   fills_of fs rule l is (Err LabelsExceed) x = (l, subst (λ g. Refusing g (areas d) LabelsExceed) is x)
   fills_of fs rule l is (Err StandingsExceed) x = (l, subst (λ g. Refusing g (areas d) StandingsExceed) is x)
-
--- what is answered and held, without that
-pub plainly : (fs : List Formula) (rule : ℕ) (r : Result (ℕ × ℕ) FillingFault) (d e : Chart) → FillsOnce fs rule r d e → Fills fs rule r d e
-plainly fs rule (Ok p) d e x = (x.0, x.1.filling)
-plainly fs rule (Err NoRule) d e x = x
-plainly fs rule (Err LabelsExceed) d e x = x
-plainly fs rule (Err StandingsExceed) d e x = x

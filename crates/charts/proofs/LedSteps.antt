@@ -24,9 +24,6 @@ use Rattle.charts.specs.Watch.{begun, scanned}
 use Rattle.charts.specs.Sound.{WholeFor, BlankOrWhole}
 use Rattle.charts.specs.Led.{mode_of}
 
-pub blank_led : (o : Option Ruled) (t : Option (List ℕ)) (c : Held) → o ≡ None → t ≡ None → ChartIs o t c blank
-blank_led o t c p q = subst (λ z. ChartIs z t c blank) (sym p) (refl, q)
-
 -- a chart of no rule is blank, and of a rule it is not
 pub no_rule_blank : (s : State) → mode_of s ≡ blank → s ≡ Blank
 no_rule_blank Blank e = refl

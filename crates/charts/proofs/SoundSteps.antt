@@ -12,13 +12,6 @@ use Rattle.charts.specs.declared.state.State.TheVariants.{Blank, Ready, Watching
 use Rattle.charts.specs.Watch.{least, most}
 use Rattle.charts.specs.Sound.{WatchKept, WholeFor, BlankOrWhole}
 
--- the bounds of a state's standings
-pub few_of : (s : State) (n : ℕ) → n ≤ most s → n ≤ 512
-few_of Blank n h = omega arith
-few_of Ready n h = omega arith
-few_of (Watching q) n h = omega arith
-few_of Broken n h = omega arith
-
 module _ (ls : List ℕ) (a : ℕ) (st : List (List ℕ)) (b : ℕ) (nx : List ℕ) where
   pub blank_sound : a ≡ 0 → b ≡ 0 → BlankOrWhole ls a st b nx Blank
   blank_sound p q = ∣ inl (refl, p, q) ∣₁

@@ -54,6 +54,3 @@ module _ (ns : List (List ℕ)) (full : Bool) (gs : List Formula) (text : List �
 
   pub reads_rule : (nodes : List Node) (r : Result ℕ SheetFault) (e : RuleFault) → r ≡ Err (S.Rule e) → parse ns (length text) 32 text ≡ Err e → ReadsBreach ns full gs text nodes r
   reads_rule nodes r e q p = reads_err nodes r (S.Rule e) q (judged_err ns full gs text e p)
-
-pub room_err : (full : Bool) (nodes : List Node) (r : Result ℕ SheetFault) (y : SheetFault) → r ≡ Err y → HasRoom full nodes r
-room_err full nodes r y e = subst (HasRoom full nodes) (sym e) tt

@@ -82,9 +82,6 @@ stands_blank names [] [] f n r = record {
 stands_blank names (x ∷ nodes) roots f n r = absurd (let e = ap length n in omega arith)
 stands_blank names [] (x ∷ roots) f n r = absurd (let e = ap length r in omega arith)
 
-pub stands_named : (s : Sheet) (ns : List Text) → names_held s.names ≡ ns → Fit ns → nodes_held s.store ≡ [] → held s.roots ≡ [] → Stands s ns []
-stands_named s ns e f n r = subst (λ (v : List Text). Stands s v []) e (of_parts s (names_held s.names) [] (stands_blank s.names (nodes_held s.store) (held s.roots) (subst Fit (sym e) f) n r))
-
 -- what holds of the roots so far and of the next holds of all of them
 pub pushed_roots : (P : ℕ → Type 0) (roots roots' : List ℕ) (root : ℕ) → roots' ≡ roots ++ (root ∷ []) → ((i : ℕ) → i < length roots → P (get_or roots i 0)) → P root → (i : ℕ) → i < length roots' → P (get_or roots' i 0)
 pushed_roots P roots roots' root e each p = subst (λ (rs : List ℕ). (i : ℕ) → i < length rs → P (get_or rs i 0)) (sym e) (push_each (λ _ r. P r) roots root 0 each p)

@@ -104,12 +104,6 @@ each_pushed {A = A} P {xs = xs} {ys = ys} {x = x} (inr e) each p = subst (λ (zs
 
 -- ---- keeping
 
-pub longer_same : (nodes : List Node) → Longer nodes nodes
-longer_same nodes = record { more = omega arith; stays = λ k d h. refl }
-
-pub longer_push : (nodes : List Node) (node : Node) → Longer nodes (nodes ++ (node ∷ []))
-longer_push nodes node = let l = length-append nodes (node ∷ []) in record { more = omega arith; stays = λ k d h. get_or-append nodes (node ∷ []) d k h }
-
 differ_of : (nodes : List Node) (gs : List Formula) → Means nodes gs → Differ gs
 differ_of nodes gs m i j h k e = let s = m.size in m.differ i j h (omega arith) e
 

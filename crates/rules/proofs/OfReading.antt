@@ -24,9 +24,6 @@ use Rattle.texts.specs.Parse.{parse}
 use Rattle.texts.proofs.OfParse.{err_read, leaf_read, one_read, first_read, second_read}
 use Rattle.rules.proofs.OfBuilt.{Interning, interned_outcome}
 
-pub longer_trans : {xs ys zs : List Node} → Longer xs ys → Longer ys zs → Longer xs zs
-longer_trans p q = let a = p.more in let b = q.more in record { more = omega arith; stays = λ i d h. q.stays i d (omega arith) ∙ p.stays i d h }
-
 abbrev pub ReadOk : (Rule → Formula) → List (List ℕ) → ℕ → ℕ → List ℕ → List Formula → List Node → Option ℕ → List ℕ → Type 0
 ReadOk pol ns total d w gs nodes k rest = (r : Rule) × (parse ns total d w ≡ Ok (r, rest)) × Outcome gs (pol r) k nodes
 
@@ -100,9 +97,6 @@ leaf_outcome s l node n0 n1 k e kept gs m =
     interned_outcome gs gs (reading_of s (leaf l)) k n1 (leaf_added s l gs) (subst (λ (x : Formula). Interned gs x k n1) (ap (made_of gs) e ∙ leaf_made s l gs) (kept gs m (omega arith)))
 
 -- ---- refusals
-
-pub numbered_err : (n : ℕ) (r : Result (Option ℕ × Bor (List ℕ)) RuleFault) (y : RuleFault) → r ≡ Err y → Numbered n r
-numbered_err n r y e = subst (Numbered n) (sym e) tt
 
 read_err : (pol : Rule → Formula) (ns : List (List ℕ)) (total d : ℕ) (w : List ℕ) (gs : List Formula) (nodes : List Node) (r : Result (Option ℕ × Bor (List ℕ)) RuleFault) (y : RuleFault)
     → r ≡ Err y → parse ns total d w ≡ Err y → Reads pol ns total d w gs nodes r

@@ -96,17 +96,6 @@ zeros [] (suc k) a = refl
 zeros (b ∷ bs) zero a = let e : b ≡ 0 = a.0 in let t : eqb b 0 ≡ true = grind (arith, nat_tests) in rw t
 zeros (b ∷ bs) (suc k) a = zeros bs k a.1
 
-pub spelled_name : (c w xs : List ℕ) (k : ℕ) → c ≡ w → AllByRecursion (λ b. b ≡ 0) xs → AllByRecursion Lower w → take (length_to 0 (c ++ drop k xs)) (c ++ drop k xs) ≡ w
-spelled_name c w xs k e z a =
-    subst (λ (v : List ℕ). take (length_to 0 (v ++ drop k xs)) (v ++ drop k xs) ≡ w) (sym e)
-    (ap (λ (j : ℕ). take j (w ++ drop k xs)) (len_front w (drop k xs) a (zeros xs k z)) ∙ take-append_seam w (drop k xs))
-
-pub not_lower : (w : List ℕ) (i : ℕ) (d : ℕ) → i < length w → (Lower (get_or w i d) → ⊥) → AllByRecursion Lower w → ⊥
-not_lower w i d h n a = n (All-get_or Lower w i d h a)
-
-pub lower_more : (w : List ℕ) (i d : ℕ) → i < length w → AllByRecursion Lower (take i w) → Lower (get_or w i d) → AllByRecursion Lower (take (i + 1) w)
-lower_more w i d h a l = All-more Lower w i d h a l
-
 pub name_fits : (w : List ℕ) → (length w ≡ 0 → ⊥) → length w ≤ 8 → AllByRecursion Lower w → None ≡ fixed_word w → FitName w
 unfolding fixed_word
 name_fits w z h a e = record {
@@ -127,13 +116,6 @@ name_fits w z h a e = record {
 pub fixed_unfit : (w : List ℕ) (x : Word) → Some x ≡ fixed_word w → FitName w → ⊥
 fixed_unfit w x e f = let n = name_not_fixed w f in let q : Some x ≡ None = e ∙ n in let z : ◌≡◌ {A = ℕ} 0 1 = cc in absurd (omega arith)
 
-pub opens_none : (ns : List (List ℕ)) (rest : List ℕ) (w : List ℕ) → w ≡ take (length_to 44 rest) rest → ((ms : List (List ℕ)) → Fit (ns ++ (w ∷ ms)) → ⊥) → Fit (ns ++ names_of rest) → ⊥
-opens_none ns rest w e n f = go (length (drop (length_to 44 rest) rest)) refl
-  where
-    go : (k : ℕ) → length (drop (length_to 44 rest) rest) ≡ k → ⊥
-    go zero q = n [] (subst (λ (v : List (List ℕ)). Fit (ns ++ v)) (names_of_last rest q ∙ ap (λ (v : List ℕ). v ∷ []) (sym e)) f)
-    go (suc k) q = n (names_of (drop 1 (drop (length_to 44 rest) rest))) (subst (λ (v : List (List ℕ)). Fit (ns ++ v)) (names_of_more rest (omega arith) ∙ ap (λ (v : List ℕ). v ∷ names_of (drop 1 (drop (length_to 44 rest) rest))) (sym e)) f)
-
 pub fit_none : Fit []
 fit_none = record { few = omega arith; each = tt; differ = λ i j a b q. absurd (omega arith) }
 
@@ -144,9 +126,6 @@ pub lower_all : (w : List ℕ) (i : ℕ) → length w ≤ i → AllByRecursion L
 lower_all [] i h a = tt
 lower_all (b ∷ bs) zero h a = absurd (omega arith)
 lower_all (b ∷ bs) (suc i) h a = (a.0, lower_all bs i (omega arith) a.1)
-
-pub spelled_eight : (c w : List ℕ) (k : ℕ) → c ≡ w → AllByRecursion Lower w → take (length_to 0 (c ++ drop k (0 ∷ (0 ∷ (0 ∷ (0 ∷ (0 ∷ (0 ∷ (0 ∷ (0 ∷ [])))))))))) (c ++ drop k (0 ∷ (0 ∷ (0 ∷ (0 ∷ (0 ∷ (0 ∷ (0 ∷ (0 ∷ []))))))))) ≡ w
-spelled_eight c w k e a = spelled_name c w (0 ∷ (0 ∷ (0 ∷ (0 ∷ (0 ∷ (0 ∷ (0 ∷ (0 ∷ [])))))))) k e eight a
 
 -- a text has at least one name, which may be unfit
 pub names_of_some : (w : List ℕ) → 0 < length (names_of w)

@@ -40,9 +40,5 @@ module _ (ns : List (List ℕ)) where
   pub second_read : (total d : ℕ) (w a m : List ℕ) (o : Binary) (f : Rule) (x : Parsed) → 0 < d → heads ns total d w ≡ Ok (Two o, a) → parse ns total (d - 1) a ≡ Ok (f, m) → parse ns total (d - 1) (drop 1 m) ≡ x → parse ns total d w ≡ binary_parsed o f x
   second_read total d w a m o f x h e p q = first_read total d w a o (Ok (f, m)) h e p ∙ ap (binary_parsed o f) q
 
--- the head at a known word
-pub head_one : (ns : List (List ℕ)) (total d : ℕ) (w a : List ℕ) (x : Word) (o p : Unary) → heads ns total d w ≡ Ok (x, a) → x ≡ One o → o ≡ p → heads ns total d w ≡ Ok (One p, a)
-head_one ns total d w a x o p h e f = h ∙ ap (λ (v : Word). Ok (v, a)) (e ∙ ap One f)
-
 pub head_is : (ns : List (List ℕ)) (total d : ℕ) (w a : List ℕ) (x y : Word) → heads ns total d w ≡ Ok (x, a) → x ≡ y → heads ns total d w ≡ Ok (y, a)
 head_is ns total d w a x y h e = h ∙ ap (λ (v : Word). Ok (v, a)) e

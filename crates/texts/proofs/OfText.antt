@@ -4,12 +4,6 @@ use lib.Seq.{drop-nil}
 use Rattle.std.proofs.lemmas.Bool.Decides.{nat_tests}
 use Rattle.texts.specs.Places.{length_to}
 
-pub len_more : (s : ℕ) (xs : List ℕ) (n : ℕ) → n < length xs → (get_or xs n 0 ≡ s → ⊥) → length_to s (drop n xs) ≡ length_to s (drop (n + 1) xs) + 1
-len_more s xs n h ne = let e : eqb (get_or xs n 0) s ≡ false = grind (arith, nat_tests) in let d = drop-cons xs n 0 h in simp (add-one, d, e)
-
-pub len_stop : (s : ℕ) (xs : List ℕ) (n : ℕ) → n < length xs → get_or xs n 0 ≡ s → length_to s (drop n xs) ≡ 0
-len_stop s xs n h e = let d = drop-cons xs n 0 h in let q : eqb (get_or xs n 0) s ≡ true = grind (arith, nat_tests) in simp (d, q)
-
 pub length_to_le : (s : ℕ) (xs : List ℕ) → length_to s xs ≤ length xs
 length_to_le s [] = omega arith
 length_to_le s (x ∷ xs) = let ih = length_to_le s xs in elim (eqb x s) as (λ b. cond b 0 (length_to s xs + 1) ≤ length (x ∷ xs)) [ true ↦ omega arith | false ↦ omega arith ]
