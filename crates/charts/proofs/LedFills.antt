@@ -22,7 +22,7 @@ use Rattle.charting.specs.Filled.{FillingOnce, Refusing}
 use Rattle.charting.proofs.OfWhole.{whole}
 use Rattle.charting.proofs.OfAnswers.{fillings_are_right, refusals_are_right}
 use Rattle.charts.specs.declared.chart.Chart.{Chart}
-use Rattle.charts.specs.Fills.{areas, ReadyWith, Emptied, Left, Fills, FillsOnce}
+use Rattle.charts.specs.Fills.{areas, ReadyWith, Emptied, Left, FillsOnce}
 use Rattle.charts.specs.Led.{held_of, mode_of, ChartLed, Answered}
 
 -- ---- the text of a rule

@@ -14,7 +14,7 @@ use Rattle.texts.specs.Judged.{judged}
 use Rattle.texts.proofs.OfJudged.{judged_err, judged_follow, judged_whole, judge_over, judge_full, judge_kept, judge_ok}
 use Rattle.rules.specs.Nodes.{Means}
 use Rattle.rules.specs.Readings.{Outcome}
-use Rattle.rules.specs.Entering.{ReadsBreach, HasRoom}
+use Rattle.rules.specs.Entering.{ReadsBreach}
 use Rattle.rules.proofs.OfReading.{ReadOk}
 
 module _ (ns : List (List ℕ)) (full : Bool) (gs : List Formula) (text : List ℕ) where

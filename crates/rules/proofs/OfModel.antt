@@ -25,7 +25,6 @@ use Rattle.rules.specs.Kept.{BreachAt}
 use Rattle.rules.specs.Entering.{ReadsBreach}
 use Rattle.rules.specs.Stands.{PartsStand, SomeRules}
 use Rattle.rules.specs.Model.{Stands, Asked}
-use Rattle.rules.proofs.OfStands.{of_parts}
 use Rattle.rules.proofs.OfKept.{stored_formula, store_topological}
 use Rattle.rules.proofs.OfNodes.{last_is, push_each}
 

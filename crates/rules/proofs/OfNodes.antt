@@ -10,7 +10,7 @@ use Rattle.formulas.specs.Nodes.{made_of, reach}
 use Rattle.texts.specs.Listed.{StandsAt}
 use Rattle.texts.proofs.OfNames.{lt_or_eq}
 use Rattle.texts.proofs.OfListed.{add_old, add_new}
-use Rattle.rules.specs.Nodes.{Means, Longer, Interned, Lacks, Finds}
+use Rattle.rules.specs.Nodes.{Means, Interned, Lacks, Finds}
 
 -- ---- one node to a formula
 

@@ -15,8 +15,8 @@ use Rattle.formulas.specs.Nodes.{made_of, reach}
 use Rattle.texts.specs.Listed.{add, added}
 use Rattle.rules.specs.declared.sign.Sign.{Sign}
 use Rattle.rules.specs.declared.sign.Sign.TheVariants.{Positive, Negated}
-use Rattle.rules.specs.Nodes.{Means, Longer, Interned}
-use Rattle.rules.specs.Readings.{binary_formula, Outcome, Both, Reads, Numbered}
+use Rattle.rules.specs.Nodes.{Means, Interned}
+use Rattle.rules.specs.Readings.{binary_formula, Outcome, Both, Reads}
 use Rattle.rules.specs.Signs.{reading_of, flipped, left_sign, leaf_node, signed}
 use Rattle.logic.specs.Rule.{Rule}
 use Rattle.texts.specs.Shapes.{leaf, unary, binary}

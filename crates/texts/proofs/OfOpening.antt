@@ -3,7 +3,7 @@ use Rattle.std.proofs.Common.{◌≡◌, ℕ, zero, suc, ◌+◌, ◌<◌, ◌�
 use lib.ListN.{get_or-append}
 use Rattle.std.specs.List.{AllByRecursion}
 use Rattle.std.specs.Str.{bytes_eq}
-use Rattle.std.proofs.ByRecursion.{All-get_or, All-push, All-more}
+use Rattle.std.proofs.ByRecursion.{All-push}
 use Rattle.std.proofs.lemmas.Bool.Decides.{nat_tests}
 use Rattle.meaning.specs.Bytes.{before_first}
 use Rattle.meaning.specs.Names.{names_of}
@@ -13,7 +13,6 @@ use Rattle.texts.specs.Words.{fixed_word}
 use Rattle.texts.specs.Fit.{Lower, FitName, Fit}
 use Rattle.texts.proofs.OfNames.{lt_or_eq, no_true, same_true}
 use Rattle.texts.proofs.OfWriting.{name_not_fixed, place_sound}
-use lib.Seq.{take-append_seam}
 
 pub names_of_last : (w : List ℕ) → length (drop (length_to 44 w) w) ≡ 0 → names_of w ≡ take (length_to 44 w) w ∷ []
 names_of_last [] h = refl
