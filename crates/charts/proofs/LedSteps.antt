@@ -111,7 +111,7 @@ module _ (ls : List ℕ) (a : ℕ) (st : List (List ℕ)) (b : ℕ) (nx : List �
       ∥∥₁_map h (λ x. (x.0, x.2, (x.5, λ z. true≢false (sym ((letter_more r u q first x).1.1 z) ∙ e)))),
       subst (λ z. ChartIs (Some r) z (held ls a st b nx) (watching (after nx q letter))) (sym (at_same c (Some (u ++ letter ∷ [])) (Some u)))
           (∥∥₁_map h (λ x. let m = letter_more r u q first x in
-              (x.0, x.1, x.2, x.3, ∣ (u ++ letter ∷ [], letters_append u (letter ∷ []) x.4 (small, tt), refl, (λ z. true≢false (sym (m.1.1 z) ∙ e)), m.0) ∣₁))),
+          (x.0, x.1, x.2, x.3, ∣ (u ++ letter ∷ [], letters_append u (letter ∷ []) x.4 (small, tt), refl, (λ z. true≢false (sym (m.1.1 z) ∙ e)), m.0) ∣₁))),
     )
 
     -- a watch without letters has no state but ready
