@@ -7,7 +7,7 @@ use Rattle.logic.specs.Counting.{More}
 use Rattle.logic.specs.Standings.{SameLabel}
 use Rattle.logic.proofs.Sat.{sat_nil}
 use Rattle.logic.proofs.Masks.{masks_differ}
-use Rattle.charting.specs.Worklists.{Complete, Exceeds}
+use Rattle.charting.specs.Worklists.{Complete, Overflows}
 use Rattle.charting.specs.Labels.{Labels, at_front, Labelled}
 use Rattle.charting.proofs.WorklistEnds.{counted, too_many}
 
@@ -58,7 +58,7 @@ module _ (ks : List Formula) (ls tb : List ℕ) (n : ℕ) (c : Complete (λ x y.
 
 -- a closed list of labels, or too many of them
 pub labels_told : (ks : List Formula) (room : ℕ) (r : Option ℕ) (ls tb : List ℕ)
-    → MatchOption r (Exceeds (λ x y. x ≡ y) 0 (Labels ks) room) (λ n. Complete (λ x y. x ≡ y) 0 (Labels ks) at_front ls n tb)
+    → MatchOption r (Overflows (λ x y. x ≡ y) 0 (Labels ks) room) (λ n. Complete (λ x y. x ≡ y) 0 (Labels ks) at_front ls n tb)
     → MatchOption r (More room Letters (SameLabel ks)) (λ n. Labelled ks ls n tb)
 labels_told ks room None ls tb h = too_many (λ x y. x ≡ y) 0 (Labels ks) (SameLabel ks) (labels_alike ks) room h
 labels_told ks room (Some n) ls tb h = labelled ks ls tb n h

@@ -4,7 +4,7 @@ use Rattle.std.proofs.lemmas.Bool.{cases_lt}
 use Rattle.logic.specs.Formula.{Letters}
 use Rattle.logic.specs.Counting.{Classes, More}
 use Rattle.once.specs.Once.{Apart}
-use Rattle.charting.specs.Worklists.{Reaches, LetterRows, Exceeds}
+use Rattle.charting.specs.Worklists.{Reaches, LetterRows, Overflows}
 
 -- each entry of the rows is one of the n
 pub rows_below : {X : Type 0} {d : X} {In : List ℕ → X → Type 0} {more : ℕ → List ℕ → List ℕ} {xs : List X} {n m : ℕ} {nx : List ℕ} → LetterRows d In more xs n nx m
@@ -52,7 +52,7 @@ module _ {X : Type 0} (alike : X → X → Type 0) (d : X) (In : List ℕ → X 
       }
 
   -- one more than there is room for
-  pub too_many : (room : ℕ) → Exceeds alike d In room → More room Letters Same
+  pub too_many : (room : ℕ) → Overflows alike d In room → More room Letters Same
   too_many room ov =
       let P : List ℕ → ℕ → Type 0 = λ u k. (x : X) × In u x × (k < room → x ≡ get_or ov.sets k d) × (k ≡ room → x ≡ ov.more.set) in
       let at : Known P (room + 1) = λ k l.

@@ -3,7 +3,7 @@ use Rattle.std.proofs.Common.{◌≡◌, ℕ, ◌+◌, ◌*◌, ◌<◌, ◌≤�
 use denote.Ref.{MutBor}
 use Rattle.logic.specs.Formula.{Letters}
 use Rattle.once.specs.Once.{Grows, GoesOn, At, Adds, Apart}
-use Rattle.charting.specs.Worklists.{Reaches, LetterRow, LetterRows, Crowds, Complete, Exceeds}
+use Rattle.charting.specs.Worklists.{Reaches, LetterRow, LetterRows, Crowds, Complete, Overflows}
 use Rattle.charting.proofs.Growth.{goes_on_trans, adds_each, first_kept, none_apart}
 
 module _ {X : Type 0} (alike : X → X → Type 0) (d : X) (In : List ℕ → X → Type 0) (more : ℕ → List ℕ → List ℕ) where
@@ -58,7 +58,7 @@ rows_filled r e = record { at = λ q l. r.at q (omega (arith, l, e)) }
 -- ---- a row while it is filled
 
 -- the list a with n items and the numbers nx have become b with m items and ny: row q is filled for the letters below s, and the rows before it are as they were
-pub record Filling {X : Type 0} (alike : X → X → Type 0) (In : List ℕ → X → Type 0) (more : ℕ → List ℕ → List ℕ)
+pub record RowSoFar {X : Type 0} (alike : X → X → Type 0) (In : List ℕ → X → Type 0) (more : ℕ → List ℕ → List ℕ)
     (a : MutBor (List X)) (n : ℕ) (nx : List ℕ) (q : ℕ) (b : MutBor (List X)) (m : ℕ) (ny : List ℕ) (s : ℕ) : Type 0 where
   pub goes_on : GoesOn alike a n b m
   pub walks : (d : X) → Reaches d In b.now m
@@ -66,7 +66,7 @@ pub record Filling {X : Type 0} (alike : X → X → Type 0) (In : List ℕ → 
   pub rest : (k : ℕ) → k < q * 256 → get_or ny k 0 ≡ get_or nx k 0
 
 pub row_filled : {X : Type 0} {alike : X → X → Type 0} {In : List ℕ → X → Type 0} {more : ℕ → List ℕ → List ℕ} {a b : MutBor (List X)} {n q m s : ℕ} {nx ny : List ℕ}
-    → Filling alike In more a n nx q b m ny s → s ≡ 256 → (d : X) → LetterRow d In more b.now m ny q 256
+    → RowSoFar alike In more a n nx q b m ny s → s ≡ 256 → (d : X) → LetterRow d In more b.now m ny q 256
 row_filled f e d = rw (← e) (f.row d)
 
 module _ {X : Type 0} (alike : X → X → Type 0) (In : List ℕ → X → Type 0) (more : ℕ → List ℕ → List ℕ)
@@ -74,14 +74,14 @@ module _ {X : Type 0} (alike : X → X → Type 0) (In : List ℕ → X → Type
     (a : MutBor (List X)) (n : ℕ) (nx : List ℕ) (q : ℕ) (known : q < n) (walks : (d : X) → Reaches d In a.now n)
     (from : X) (is : (d : X) → from ≡ get_or a.now q d)
     (b c : MutBor (List X)) (m o : ℕ) (ny : List ℕ) (s : ℕ) (small : s < 256) (x : X) (after : (u : List ℕ) → In u from → In (more s u) x)
-    (old : Filling alike In more a n nx q b m ny s) (on : GoesOn alike b m c o) where
+    (old : RowSoFar alike In more a n nx q b m ny s) (on : GoesOn alike b m c o) where
   -- the word that leads to the next item
   word : (d : X) → (u : List ℕ) × Letters u × In u x
   word d = let w = (walks d).at q known in (more s w.0, lettered s w.0 small w.1, after w.0 (subst (In w.0) (sym (is d)) w.2))
 
   -- its number is written
   pub goes_on_filling : (k : ℕ) → q * 256 + s < length ny → Adds alike b.now m x (Some k) c.now o → At alike c.now o x k
-      → Filling alike In more a n nx q c o (set ny (q * 256 + s) k) (s + 1)
+      → RowSoFar alike In more a n nx q c o (set ny (q * 256 + s) k) (s + 1)
   unfolding word
   goes_on_filling k room adds at = record {
     goes_on = goes_on_trans old.goes_on on;
@@ -108,8 +108,8 @@ module _ {X : Type 0} (alike : X → X → Type 0) (In : List ℕ → X → Type
       apart : Apart alike c.now o
       apart = then.apart (on.apart (none_apart alike a.now n blank))
 
-      pub exceeds : Crowds alike d In c.now o → Exceeds alike d In (length a.now)
-      exceeds full = subst (Exceeds alike d In) (full.filled ∙ then.size ∙ on.size) (record { sets = c.now; apart = apart; walks = walks; more = full })
+      pub overflows : Crowds alike d In c.now o → Overflows alike d In (length a.now)
+      overflows full = subst (Overflows alike d In) (full.filled ∙ then.size ∙ on.size) (record { sets = c.now; apart = apart; walks = walks; more = full })
 
       pub complete : (nx : List ℕ) → o ≤ length c.now → LetterRows d In more c.now o nx o → Complete alike d In more c.now o nx
       complete nx fits rows =

@@ -2,7 +2,7 @@
 use Rattle.std.specs.Prelude.{ℕ, ◌+◌, ◌*◌, ◌<◌, ◌≤◌, Bool, List, [], ◌∷◌, ◌++◌, length, slice_index}
 use Rattle.once.specs.Once.{SameWords}
 use Rattle.charting.specs.Sets.{bit_of, Packs, upto}
-use Rattle.charting.specs.Worklists.{Reaches, LetterRow, LetterRows, Crowds, Complete, Exceeds}
+use Rattle.charting.specs.Worklists.{Reaches, LetterRow, LetterRows, Crowds, Complete, Overflows}
 
 -- each entry of the rows below a is below a
 pub record Closed (tb : List ℕ) (a : ℕ) : Type 0 where
@@ -48,4 +48,4 @@ Charted tb a first st n nx = Complete SameWords [] (Reached tb a first) at_end s
 
 -- there are more sets than fit: the list is full, without doubles, and another set is reached
 abbrev pub Overfull : List ℕ → ℕ → List ℕ → ℕ → Type 0
-Overfull tb a first room = Exceeds SameWords [] (Reached tb a first) room
+Overfull tb a first room = Overflows SameWords [] (Reached tb a first) room

@@ -40,7 +40,7 @@ pub record Complete {X : Type 0} (alike : X → X → Type 0) (d : X) (In : List
   pub rows : LetterRows d In more xs n nx n
 
 -- there are more items than fit: the list is full, without doubles, and a word leads to another
-pub record Exceeds {X : Type 0} (alike : X → X → Type 0) (d : X) (In : List ℕ → X → Type 0) (room : ℕ) : Type 0 where
+pub record Overflows {X : Type 0} (alike : X → X → Type 0) (d : X) (In : List ℕ → X → Type 0) (room : ℕ) : Type 0 where
   pub sets : List X
   pub apart : Apart alike sets room
   pub walks : Reaches d In sets room

@@ -2,7 +2,7 @@
 ghost use Rattle.std.specs.Prelude.{◌≡◌, ℕ, ◌*◌, ◌<◌, List, [], length, MatchOption, slice_index};
 ghost use Rattle.logic.specs.Formula.{Letters};
 ghost use Rattle.once.specs.Once.{GoesOn};
-ghost use Rattle.charting.specs.Worklists.{Rooms, Reaches, LetterRow, Crowds, Complete, Exceeds};
+ghost use Rattle.charting.specs.Worklists.{Rooms, Reaches, LetterRow, Crowds, Complete, Overflows};
 
 use once::{Item, KeepOnce};
 
@@ -61,7 +61,7 @@ pub(crate) fn all_states<A: Automaton>(
     next: &mut [u16],
 ) -> Option<usize>
     requires { Rooms area.old next.old }
-    ensures { (d : A.State) → MatchOption result (Exceeds A.State.alike d (A.leads automaton.now) (length area.old)) (λ n. Complete A.State.alike d (A.leads automaton.now) A.longer area.new n next.new) }
+    ensures { (d : A.State) → MatchOption result (Overflows A.State.alike d (A.leads automaton.now) (length area.old)) (λ n. Complete A.State.alike d (A.leads automaton.now) A.longer area.new n next.new) }
 {
     let mut list = KeepOnce::new(area);
     list.add(automaton.first())?;

@@ -1,7 +1,7 @@
 use Rattle.std.proofs.Common.{◌<◌, ◌∙◌, arith, rules}
 use Rattle.charting.specs.Worklists.{Complete}
 use Rattle.charting.proofs.Growth.{goes_on_trans}
-use Rattle.charting.proofs.WorklistSteps.{rows_more, rows_filled, exceeds, complete}
+use Rattle.charting.proofs.WorklistSteps.{rows_more, rows_filled, overflows, complete}
 use Rattle.charts.proofs.worklist.all_states.Goals as goal
 
 pub loop-done-preserved : goal.loop-done-preserved
@@ -20,7 +20,7 @@ pub returns-in_err-fill_row : goal.returns-in_err-fill_row
 returns-in_err-fill_row g c = λ d.
     let e = c.in_ok-add.ensures in
     let f = c.in_err-fill_row.ensures in
-    let t = exceeds g.A.State.Item.alike (g.A.Automaton.leads c.args.automaton.now) g.A.Automaton.longer c.new-list.result.area c.add.new.self.area c.new-list.result.len c.add.new.self.len
+    let t = overflows g.A.State.Item.alike (g.A.Automaton.leads c.args.automaton.now) g.A.Automaton.longer c.new-list.result.area c.add.new.self.area c.new-list.result.len c.add.new.self.len
     c.new-list.ensures.len c.first.result c.first.ensures c.in_ok-add.field-0 e.adds e.goes_on c.fill_row.new.list.area c.fill_row.new.list.len
     (goes_on_trans c.loop-done.invariant.0 f.goes_on) d (f.walks d) (f.row d) in
     rw c.from_residual-in_err-fill_row.ensures (rw (← c.new-list.ensures.area) t)
