@@ -13,6 +13,7 @@ pub(crate) struct Kept<'a> {
     pub(crate) list: KeepOnce<'a, Pair>,
     pub(crate) base: usize,
     pub(crate) depth: usize,
+    // Kept: a fact beside the list and no failure, since the level goes on after it: a state behind an entry may still end a breach.
     pub(crate) full: bool,
 }
 

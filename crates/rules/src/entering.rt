@@ -12,6 +12,7 @@ use meaning::refusals::{RuleFault, SheetFault};
 
 // Stores the breach formula of a text and answers its number. `full`: there is no room for a further rule.
 // A refused text may leave formulas in the store.
+// Kept: `full` is handed in as a flag and no failure yet, since the faults of the text come before it.
 pub fn read_breach(
     names: &Names,
     store: &mut Store,
