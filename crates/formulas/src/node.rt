@@ -1,4 +1,5 @@
 // A formula in normal form; operands go by their numbers in the list of nodes.
+ghost use Rattle.std.specs.Cmp.{IsPartialEquivalence};
 ghost use Rattle.std.specs.Prelude.{◌≡◌, Decides};
 ghost use Rattle.formulas.specs.declared.node.Node.{Node};
 ghost use Rattle.formulas.specs.Same.{same_node};
@@ -21,6 +22,7 @@ pub fn is_same(node: &Node, other: &Node) -> bool
     ensures value { result ≡ same_node node.now other.now }
     ensures decides { Decides result (node.now ≡ other.now) }
     ensures equality { (x y : Node) → ⟦<Node as PartialEq>⟧.eq x y ≡ same_node x y }
+    ensures laws { IsPartialEquivalence same_node }
 {
     *node == *other
 }

@@ -7,4 +7,6 @@ mod areas;
 #[cfg(test)]
 mod charts_and_watches;
 #[cfg(test)]
+mod fixed_lists;
+#[cfg(test)]
 mod machines_and_walks;
