@@ -7,6 +7,7 @@ use charts::chart::Chart;
 use machines::machine::Machine;
 
 // A machine that is explored by a filled chart.
+// Kept: that a state is one of the machine's is asked in each contract, since it ties an argument to the machine, and no type holds both.
 #[derive(Drop)]
 pub(crate) struct Exploration<'a, M> {
     pub(crate) machine: &'a M,

@@ -12,7 +12,7 @@ ghost use Rattle.breaches.specs.Counts.{tally_of};
 ghost use Rattle.breaches.specs.Searched.{Searched, SearchedAsRead, Early, Within};
 
 use crate::exploration::Exploration;
-use crate::kept::Kept;
+use crate::kept::KeptPairs;
 use charts::chart::Chart;
 use machines::machine::Machine;
 use meaning::answers::Verdict;
@@ -21,8 +21,8 @@ use pairs::pair::Pair;
 use std::ops::ControlFlow;
 
 impl<M: Machine> Exploration<'_, M> {
-    // The same from the first level on, where nothing is refused before looking.
-    fn run(&self, kept: &mut Kept, walk: &mut [usize]) -> Result<Verdict, SearchingFault>
+    // Looks level by level, once nothing is refused before looking.
+    fn run(&self, kept: &mut KeptPairs, walk: &mut [usize]) -> Result<Verdict, SearchingFault>
         requires fresh { tally_of kept.old ≡ nothing_kept }
         requires longer { length kept.old.list.area.now < length walk.old }
         ensures { Answers (M.Machine.meaning self.now.machine.now) (reader_of self.now.chart.now) (length kept.old.list.area.now) walk.old walk.new result }
@@ -73,5 +73,5 @@ pub fn find_breach<M: Machine>(
     if walk.len() <= pairs.len() {
         return Err(SearchingFault::ShortWalkArea);
     }
-    Exploration { machine, chart }.run(&mut Kept::new(pairs), walk)
+    Exploration { machine, chart }.run(&mut KeptPairs::new(pairs), walk)
 }

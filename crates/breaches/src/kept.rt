@@ -4,12 +4,12 @@ ghost use Rattle.pairs.specs.Stages.{no_pair, nothing_kept, Keeps, Rooted, depth
 ghost use Rattle.breaches.specs.Counts.{tally_of};
 
 use once::KeepOnce;
-use pairs::level::Behind;
+use pairs::level::LastStep;
 use pairs::pair::Pair;
 
 // Beside the pairs, the level that is being filled: its first entry, how many states its walks have, and whether a pair found no room.
 #[derive(Drop)]
-pub(crate) struct Kept<'a> {
+pub(crate) struct KeptPairs<'a> {
     pub(crate) list: KeepOnce<'a, Pair>,
     pub(crate) base: usize,
     pub(crate) depth: usize,
@@ -17,13 +17,13 @@ pub(crate) struct Kept<'a> {
     pub(crate) full: bool,
 }
 
-impl<'a> Kept<'a> {
-    pub(crate) fn new(area: &'a mut [Pair]) -> Kept<'a>
+impl<'a> KeptPairs<'a> {
+    pub(crate) fn new(area: &'a mut [Pair]) -> KeptPairs<'a>
         ensures fresh { tally_of result ≡ nothing_kept }
         ensures area { result.list.area.now ≡ area.old }
         ensures lent { result.list.area.ghost_name ≡ area.entry.ghost_name }
     {
-        Kept {
+        KeptPairs {
             list: KeepOnce::new(area),
             base: 0,
             depth: 1,
@@ -49,7 +49,7 @@ impl<'a> Kept<'a> {
     }
 
     // Writes the walk of an entry and then one state behind it to the front of the walk area.
-    pub(crate) fn show(&self, end: Behind, walk: &mut [usize]) -> usize
+    pub(crate) fn show(&self, end: LastStep, walk: &mut [usize]) -> usize
         requires rooted { Rooted self.now.list.area.now (end.entry + 1) }
         requires below { end.entry < self.now.list.len }
         requires room { depth_at self.now.list.area.now end.entry < length walk.old }

@@ -5,15 +5,15 @@ ghost use Rattle.breaches.specs.Charts.{reader_of, standings_of};
 ghost use Rattle.breaches.specs.Counts.{tally_of, Staged};
 
 use crate::exploration::Exploration;
-use crate::kept::Kept;
+use crate::kept::KeptPairs;
 use machines::machine::Machine;
-use pairs::level::{Behind, Found, Tried};
+use pairs::level::{Found, LastStep, Tried};
 use pairs::pair::Pair;
 use std::ops::ControlFlow;
 
 impl<M: Machine> Exploration<'_, M> {
     // Keeps the starts; or breaks with a start that is itself a breach.
-    pub(crate) fn begin(&self, kept: &mut Kept) -> Tried
+    pub(crate) fn begin(&self, kept: &mut KeptPairs) -> Tried
         requires fresh { tally_of kept.old ≡ nothing_kept }
         ensures { Begins (M.Machine.meaning self.now.machine.now) (reader_of self.now.chart.now) (standings_of self.now.chart.now) kept.old.list.area.now kept.new.list.area.now (tally_of kept.new) result }
     {
@@ -24,15 +24,16 @@ impl<M: Machine> Exploration<'_, M> {
             }
             kept.keep(Pair {
                 state,
+                standing: 0,
+                parent: 0,
                 depth: 1,
-                ..Pair::BLANK
             });
         }
         ControlFlow::Continue(())
     }
 
     // Keeps what entry i steps to; or breaks with a step that ends a breach.
-    fn leave(&self, kept: &mut Kept, i: usize) -> Found
+    fn leave(&self, kept: &mut KeptPairs, i: usize) -> Found
         requires stage { Staged (M.Machine.meaning self.now.machine.now) self.now.chart.now kept.old }
         requires below { i < kept.old.base }
         requires depth { depth_at kept.old.list.area.now i + 1 ≡ kept.old.depth }
@@ -43,7 +44,7 @@ impl<M: Machine> Exploration<'_, M> {
         for k in 0..self.step_count(from.state) {
             let state = self.step(from.state, k);
             if self.is_breach(state, standing) {
-                return ControlFlow::Break(Behind { entry: i, state });
+                return ControlFlow::Break(LastStep { entry: i, state });
             }
             kept.keep(Pair {
                 state,
@@ -56,7 +57,7 @@ impl<M: Machine> Exploration<'_, M> {
     }
 
     // Leaves the entries from `low` on up to the present level; or breaks with a step behind one of them that ends a breach.
-    pub(crate) fn level(&self, kept: &mut Kept, low: usize) -> Found
+    pub(crate) fn level(&self, kept: &mut KeptPairs, low: usize) -> Found
         requires stage { Staged (M.Machine.meaning self.now.machine.now) self.now.chart.now kept.old }
         requires order { low ≤ kept.old.base }
         requires depth { (i : ℕ) → low ≤ i → i < kept.old.base → depth_at kept.old.list.area.now i + 1 ≡ kept.old.depth }

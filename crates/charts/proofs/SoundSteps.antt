@@ -1,5 +1,5 @@
 -- A chart stays blank or whole. Assumes nothing.
-use Rattle.std.proofs.Common.{◌≡◌, ℕ, ◌+◌, ◌*◌, ◌<◌, ◌≤◌, true, false, ◌⊎◌, List, [], ◌∷◌, ◌++◌, sym, refl, ap, ◌∙◌, subst, inl, inr, true≢false, arith}
+use Rattle.std.proofs.Common.{◌≡◌, ℕ, ◌+◌, ◌*◌, ◌<◌, ◌≤◌, Bool, true, false, Option, Some, None, if◌then◌else◌, ◌⊎◌, List, [], ◌∷◌, ◌++◌, sym, refl, ap, ◌∙◌, subst, inl, inr, true≢false, arith}
 use mathlib.Core.Logic.{∥∥₁_map}
 use mathlib.Core.List.{foldl-append}
 use Rattle.logic.specs.Formula.{Formula, Letters}
@@ -11,6 +11,11 @@ use Rattle.charts.specs.declared.state.State.{State}
 use Rattle.charts.specs.declared.state.State.TheVariants.{Blank, Ready, Watching, Broken}
 use Rattle.charts.specs.Watch.{least, most}
 use Rattle.charts.specs.Sound.{WatchKept, WholeFor, BlankOrWhole}
+
+-- what a question inside its range answers
+pub asked : {A : Type 0} (b : Bool) (x y : A) (r : Option A) → r ≡ (if b then Some x else None) → r ≡ Some y → x ≡ y
+asked true x y r e f = cc
+asked false x y r e f = cc
 
 module _ (ls : List ℕ) (a : ℕ) (st : List (List ℕ)) (b : ℕ) (nx : List ℕ) where
   pub blank_sound : a ≡ 0 → b ≡ 0 → BlankOrWhole ls a st b nx Blank

@@ -11,8 +11,8 @@ ghost use Rattle.charts.specs.Watch.{least, most};
 
 use crate::state::State;
 
-// Kept: the areas are lent, and the counts say how much of them is filled.
 // The labels, the record of each standing (the automaton's states), and 256 next standings for each, one for each letter.
+// Kept: the areas and their forms are given, and two counts say how much of the three is filled.
 #[derive(Drop)]
 pub struct Chart<'a> {
     labels: &'a mut [u32],

@@ -15,7 +15,7 @@ pub struct FixedList<T, const N: usize> {
     ghost fits: { len ≤ N },
 }
 
-// Kept: `Clone` is not derived over the ghost fields of a generic struct.
+// Kept: a derive of `Clone` is refused over ghost fields (`derive-over-ghost-field`).
 impl<T: Copy, const N: usize> Clone for FixedList<T, N> {
     ghost is_clone = { λ x y. y ≡ x };
 

@@ -17,7 +17,7 @@ pub enum Node {
     Release(u16, u16),
 }
 
-// Whether two nodes are the same, which `==` on nodes says.
+// What is claimed of `==` on nodes: it is `same_node`, and says whether two nodes are equal.
 pub fn is_same(node: &Node, other: &Node) -> bool
     ensures value { result ≡ same_node node.now other.now }
     ensures decides { Decides result (node.now ≡ other.now) }

@@ -24,6 +24,7 @@ pub enum Entry<'a> {
 }
 
 // Where the byte `at` first stands.
+// Kept: one call of `position`, under the name and the fact that proofs go by.
 fn first(text: &[u8], at: u8) -> Option<usize>
     ensures { result ≡ position (λ b. b == at) text.now }
 {

@@ -1,5 +1,5 @@
 // The logic of rules: formulas, words, witnesses and breaches, labels, standings and how they are counted, in specs/; here its theorems,
-// each on the contract of a function that does nothing, so that the check asks for its proof. Everything else stands on it.
+// each on the contract of a function that does nothing, so that the check asks for its proof. The meaning of the calls (`meaning`) and all that speaks of formulas stands on it.
 #![tactic(auto)]
 
 ghost use Rattle.logic.specs.Statements.{BreachIsSat, EmptyHasNone, EmptyIsNoBreach, BreachStays, OnlyNamedSignalsCount};

@@ -2,7 +2,7 @@
 
 // A state: whether it is a start, its letter, and where its steps stand: `step_count` records from `first_step` on.
 // Apart from that, record k keeps in `nth_start` the number of the k-th start.
-// Kept: the starts have no lent area of their own, and the k-th one is found in constant time.
+// Kept: numbers lead to starts and steps, since both areas are lent, and each question is answered in constant time.
 #[derive(Clone, Copy, Debug, PartialEq, Eq)]
 pub struct State {
     pub(crate) start: bool,

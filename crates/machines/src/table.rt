@@ -7,8 +7,8 @@ pub mod questions;
 
 use crate::records::{State, Step};
 
-// Kept: memory is lent, and its owner sets how much, so the counts of what is used stand beside the areas.
 // The first `state_count` records of one area and the first `step_count` of the other are the lines that it holds.
+// Kept: both areas are lent, and three counts say what is used of the two.
 #[derive(Drop)]
 pub struct Table<'a> {
     states: &'a mut [State],

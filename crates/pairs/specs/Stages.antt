@@ -6,7 +6,7 @@ use Rattle.meaning.specs.Machines.{Meaning, Among}
 use Rattle.meaning.specs.Walks.{Walk, last, word}
 use Rattle.pairs.specs.Readers.{Reader, standing_of, after}
 use Rattle.pairs.specs.declared.pair.Pair.{Pair}
-use Rattle.pairs.specs.declared.level.Behind.{Behind}
+use Rattle.pairs.specs.declared.level.LastStep.{LastStep}
 
 -- the level that is being filled: its first entry, how many pairs are kept in all, whether one found no room, and how many states its walks have
 pub record Tally : Type 0 where
@@ -21,7 +21,7 @@ Tried = ControlFlow ℕ (Unit {0})
 
 -- what leaving entries came to: an entry with a state behind it that ends a breach, or none
 abbrev pub Found : Type 0
-Found = ControlFlow Behind (Unit {0})
+Found = ControlFlow LastStep (Unit {0})
 
 abbrev pub no_pair : Pair
 no_pair = record { state = 0; standing = 0; parent = 0; depth = 0 }

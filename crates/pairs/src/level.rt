@@ -3,7 +3,7 @@ use std::ops::ControlFlow;
 
 // A step that ends a breach: the entry that it leaves, and the state that it leads to.
 #[derive(Clone, Copy, Debug, PartialEq, Eq)]
-pub struct Behind {
+pub struct LastStep {
     pub entry: usize,
     pub state: usize,
 }
@@ -12,4 +12,4 @@ pub struct Behind {
 pub type Tried = ControlFlow<usize>;
 
 // What leaving entries came to: it breaks with a step that ends a breach.
-pub type Found = ControlFlow<Behind>;
+pub type Found = ControlFlow<LastStep>;

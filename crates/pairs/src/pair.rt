@@ -6,6 +6,7 @@ use once::Item;
 
 // The pair of a walk: its last state, and the standing (state of the chart's automaton) after the letters before that state.
 // Beside it the number of the entry that the walk came through, and its number of states.
+// Kept: an entry goes by its number, since the area of the pairs is lent.
 #[derive(Clone, Copy, Debug, PartialEq, Eq)]
 pub struct Pair {
     pub state: usize,

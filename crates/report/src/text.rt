@@ -17,6 +17,7 @@ pub(crate) fn fault_line(heap: Global, refused: FileFault) -> Result<String, All
 }
 
 // What is said of a rule: the walk that breaks it, or of how many pairs it is clear, or the number of the refusal.
+// Kept: the refusals of two kinds of calls end here, and only their number is printed.
 #[derive(Clone, Copy)]
 pub(crate) enum Said<'a> {
     Broken(&'a [usize]),

@@ -1,4 +1,4 @@
--- The sign that a part of a rule is read with: positive, or negated under `!`. Assumes nothing.
+-- The sign that a part of a rule is read with: as it stands, or negated. Assumes nothing.
 use Rattle.logic.specs.Formula.{Formula}
 use Rattle.logic.specs.Rule.{Rule, positive, negated}
 use Rattle.texts.specs.declared.words.Leaf.{Leaf}

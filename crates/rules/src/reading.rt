@@ -14,6 +14,7 @@ use meaning::refusals::RuleFault;
 use texts::words::{Binary, Leaf, Unary, Word};
 
 impl Reader {
+    // Kept: a rule of the project has two readings that lead into each other at every `!`; all that they share is `read`.
     // Stores the positive reading of the rule that `rest` begins with, and answers its number and what follows it.
     // No number: the store is full, which does not stop the reading.
     #[cycle(readings)]
@@ -69,7 +70,7 @@ impl Reader {
                 let (a, end) = self.read(after, depth - 1, sign, store)?;
                 Ok((store.intern_next(a), end))
             }
-            // Kept: F and G differ in a leaf and an operator; one arm for both needs a further enum, which is no plainer.
+            // Kept: one function for F and G would take six arguments and join the cycle of the readings, which is no plainer.
             Word::One(Unary::Finally) => {
                 let always = store.intern(sign.leaf(Leaf::True));
                 let (b, end) = self.read(after, depth - 1, sign, store)?;

@@ -7,7 +7,7 @@ ghost use Rattle.rules.specs.Signs.{flipped, left_sign, leaf_node, signed};
 use formulas::node::Node;
 use texts::words::{Binary, Leaf};
 
-// Negated: what is read stands under an odd number of `!`.
+// Negated: what is stored is the negation of what is read.
 #[derive(Clone, Copy, Debug, PartialEq, Eq)]
 pub enum Sign {
     Positive,

@@ -66,7 +66,7 @@ pub fn skip_space(rest: &[u8]) -> &[u8]
     }
 }
 
-// A reader of a rule text: the names that it reads under, and the length of the whole text.
+// A reader of a rule text: a copy of the names that it reads under, and the length of the whole text.
 #[derive(Clone, Copy)]
 pub struct Reader {
     names: Names,

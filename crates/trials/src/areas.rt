@@ -8,12 +8,16 @@ use std::test::Fail;
 // A sheet with the names `stop,full` and one rule.
 pub(crate) fn sheet_of(rule: &[u8]) -> Result<Sheet, Fail> {
     let mut sheet = Sheet::new();
-    if sheet.open(b"stop,full").is_err() || sheet.enter(rule).is_err() {
-        return Err(Fail::new("the rule is refused"));
-    }
+    sheet
+        .open(b"stop,full")
+        .map_err(|_| Fail::new("the names are refused"))?;
+    sheet
+        .enter(rule)
+        .map_err(|_| Fail::new("the rule is refused"))?;
     Ok(sheet)
 }
 
+// Kept: `cases` has one too, since a shared one would be a library that allocates, which a rule of the project excludes.
 #[derive(Drop)]
 pub(crate) struct Areas {
     labels: Vec<u32>,

@@ -21,6 +21,7 @@ use rules::sheet::Sheet;
 impl<'a> Chart<'a> {
     // Fills the chart for a rule of a sheet and drops the watch: the numbers of labels and of standings. Where there are too many
     // of either, the chart is blank afterwards; where there is no such rule, it stays as it was.
+    // Kept: a rule of the project answers both numbers as a pair.
     pub fn fill(&mut self, sheet: &Sheet, rule: usize) -> Result<(usize, usize), FillingFault>
         ensures lent { OnLoan self.old.labels self.old.standings self.old.next self.new }
         ensures sizes { areas self.new ≡ areas self.old }

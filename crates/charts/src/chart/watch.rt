@@ -7,7 +7,6 @@ ghost use Rattle.charts.specs.Kept.{SameAreas};
 ghost use Rattle.charts.specs.Led.{ChartLed, Answered};
 
 use crate::chart::Chart;
-use crate::standings::has_label;
 use crate::state::{Event, State};
 use meaning::answers::Scanned;
 use meaning::refusals::{BeginningFault, ScanningFault};
@@ -50,9 +49,8 @@ impl<'a> Chart<'a> {
             (State::Ready, Event::Scan { .. }) => Err(ScanningFault::NoWatch),
             (State::Broken, Event::Scan { .. }) => Err(ScanningFault::AlreadyBroken),
             (State::Watching { standing: from }, Event::Scan { letter }) => {
-                let standing = self.next[from as usize * 256 + letter as usize];
-                let members = self.standings[standing as usize];
-                if has_label(&members, 0) {
+                let standing = self.next(from, letter).unwrap();
+                if self.says_breach(standing).unwrap() {
                     self.state = State::Broken;
                     Ok(Scanned::Broken)
                 } else {

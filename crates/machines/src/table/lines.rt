@@ -73,15 +73,14 @@ impl<'a> Table<'a> {
         if at >= self.states.len() || at >= 4096 {
             return Err(TableFault::NoRoom);
         }
-        // this number counts only where the new state is a start
+        // this number counts only where the new state is a start; where all are starts, its place is that of the new state
         let nth = self.start_count;
         self.states[nth].nth_start = at as u16;
         self.states[at] = State {
             start,
             letter,
-            first_step: 0,
-            step_count: 0,
             nth_start: at as u16,
+            ..State::BLANK
         };
         self.state_count = at + 1;
         self.start_count = nth + usize::from(start);

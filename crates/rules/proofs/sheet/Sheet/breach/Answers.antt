@@ -1,4 +1,4 @@
-use Rattle.std.proofs.Common.{◌≡◌, ◌<◌, ◌≤◌, length, get_or, rules, arith}
+use Rattle.std.proofs.Common.{◌≡◌, ◌<◌, length, get_or, rules}
 use Rattle.fixed.specs.Held.{held}
 use Rattle.rules.proofs.OfModel.{asked}
 use Rattle.rules.proofs.sheet.Sheet.breach.Goals as goal
@@ -8,8 +8,3 @@ returns c =
     let h : c.args.rule < length (held c.args.self.now.roots) = search rules in
     let e : c.in_ok-root.root.now ≡ get_or (held c.args.self.now.roots) c.args.rule 0 = search rules in
     λ ns fs st. asked c.args.self.now c.args.rule ns fs c.breach.result h st (rw (← e) c.breach.ensures)
-
-pub returns-in_err-root : goal.returns-in_err-root
-returns-in_err-root c =
-    let h : length (held c.args.self.now.roots) ≤ c.args.rule = search rules in
-    rw c.from_residual.ensures (λ ns fs st. let n = st.count in omega arith)

@@ -3,7 +3,7 @@ use Rattle.std.proofs.lemmas.List.{drop-set-lt, length-set}
 use Rattle.pairs.specs.declared.pair.Pair.{Pair}
 use Rattle.pairs.specs.Stages.{depth_at}
 use Rattle.pairs.proofs.Showing.{written, written_more, written_first, written_last, up}
-use Rattle.breaches.proofs.kept.Kept.show.Goals as goal
+use Rattle.breaches.proofs.kept.KeptPairs.show.Goals as goal
 
 pub loop-place-preserved : goal.loop-place-preserved
 loop-place-preserved c =

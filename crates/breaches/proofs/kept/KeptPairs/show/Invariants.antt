@@ -1,7 +1,7 @@
 use Rattle.std.proofs.Common.{◌≡◌, ◌+◌, ◌<◌, ◌≤◌, drop}
 use Rattle.pairs.specs.Stages.{depth_at}
 use Rattle.pairs.proofs.Showing.{written}
-use Rattle.breaches.proofs.kept.Kept.show.Given as goal
+use Rattle.breaches.proofs.kept.KeptPairs.show.Given as goal
 
 abbrev pub invariant-loop-place : goal.invariant-loop-place
 invariant-loop-place l = record {
