@@ -66,7 +66,7 @@ pub(crate) fn all_states<A: Automaton>(
     let mut list = KeepOnce::new(area);
     list.add(automaton.first())?;
     let mut done = 0;
-    // Kept: the list grows while it is walked, which no iterator over it allows.
+    // Kept: the list grows while it is walked, which no iterator over it allows; so the rows go by number too.
     while done < list.len() {
         fill_row(automaton, &mut list, next, done)?;
         done += 1;

@@ -47,6 +47,7 @@ impl Reader {
     }
 
     // Either reading, by its sign; they lead into each other at every `!`.
+    // Kept: the rest of the text, the depth left and the store change from call to call, so they are arguments and no parts of the reader.
     #[cycle(readings)]
     fn read<'t>(
         &self,
