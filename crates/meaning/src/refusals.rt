@@ -260,6 +260,7 @@ impl SheetFault {
     }
 
     // The layer that refuses: the rule's text, or the sheet.
+    // Kept: a layer is only printed, as one of four words; a type of its own would say no more.
     pub fn layer(self) -> &'static str
         ensures { result.now ≡ layer_of_sheet self }
     {
