@@ -1,8 +1,9 @@
 // The report of a file: a loading, and for each rule a filling and a look for breaches.
-ghost use Rattle.std.specs.Prelude.{◌≡◌, ◌<◌, length, IfOk, string_bytes};
+ghost use Rattle.std.specs.Prelude.{◌≡◌, ◌<◌, length, IfOk, OnOk, string_bytes};
 ghost use Rattle.meaning.specs.declared.refusals.LineFault.TheVariants.{Table as Table-fault};
 ghost use Rattle.meaning.specs.declared.refusals.TableFault.TheVariants.{NoRoom};
-ghost use Rattle.meaning.specs.Printed.{fault_line};
+ghost use Rattle.meaning.specs.Printed.{fault_line, Prints};
+ghost use Rattle.report.specs.Reported.{GrownBy, VerdictLed, RuleLed, PrintsShort};
 
 use crate::text::{RuleLine, Said, fault_line};
 use breaches::find::find_breach;
@@ -26,7 +27,9 @@ fn write_look(
     rule: usize,
     chart: &Chart,
     table: &Table,
-) -> Result<(), AllocError> {
+) -> Result<(), AllocError>
+    ensures { OnOk result (GrownBy (string_bytes text.old) (string_bytes text.new) (VerdictLed chart.now table.now rule)) }
+{
     let mut pairs = vec![in heap; Pair::BLANK; 1024]?;
     let mut walk = vec![in heap; 0; 1025]?;
     let said = match find_breach(chart, table, pairs.as_mut_slice(), walk.as_mut_slice()) {
@@ -44,7 +47,9 @@ fn write_rule(
     sheet: &Sheet,
     table: &Table,
     rule: usize,
-) -> Result<(), AllocError> {
+) -> Result<(), AllocError>
+    ensures { OnOk result (GrownBy (string_bytes text.old) (string_bytes text.new) (RuleLed sheet.now table.now rule)) }
+{
     let mut labels = vec![in heap; 0; 512]?;
     let mut standings = vec![in heap; [0; 8]; 32]?;
     let mut next = vec![in heap; 0; 8192]?;
@@ -63,7 +68,9 @@ fn write_rule(
 }
 
 // The report of a file that is not too long: the lines of its rules, or the one line that refuses it.
-fn report_short(heap: Global, file: &[u8]) -> Result<String, AllocError> {
+fn report_short(heap: Global, file: &[u8]) -> Result<String, AllocError>
+    ensures { IfOk result (λ s. PrintsShort file.now (string_bytes s)) }
+{
     let mut states = vec![in heap; State::BLANK; 256]?;
     let mut steps = vec![in heap; Step::BLANK; 1024]?;
     let mut sheet = Sheet::new();
@@ -81,6 +88,7 @@ fn report_short(heap: Global, file: &[u8]) -> Result<String, AllocError> {
 // What the program prints for a file.
 pub fn report(heap: Global, file: &[u8]) -> Result<String, AllocError>
     ensures long { IfOk result (λ s. 8192 < length file.now → string_bytes s ≡ fault_line (record { line = 0; fault = Table-fault NoRoom })) }
+    ensures prints { IfOk result (λ s. Prints file.now (string_bytes s)) }
 {
     if file.len() > FILE_ROOM {
         let fault = FileFault {
