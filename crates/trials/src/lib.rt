@@ -10,3 +10,5 @@ mod charts_and_watches;
 mod fixed_lists;
 #[cfg(test)]
 mod machines_and_walks;
+#[cfg(test)]
+mod ranges;
