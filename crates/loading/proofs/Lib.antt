@@ -1,3 +1,5 @@
 pub mod OfPlaces
 pub mod OfTaking
 pub mod OfLoop
+pub mod OfPieces
+pub mod OfLed

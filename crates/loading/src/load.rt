@@ -36,20 +36,15 @@ fn load_lines(sheet: &mut Sheet, table: &mut Table, file: &[u8]) -> Result<(), F
     ensures accepted { Blank sheet.old (held_lines table.old) → OnOk result (HasFile file.now sheet.new (held_lines table.new)) }
     ensures areas { SameAreas table.old table.new }
 {
-    let (first, mut rest) = cut(file, b'\n').ok_or(cut_off(1))?;
+    let (first, rest) = cut(file, b'\n').ok_or(cut_off(1))?;
     at_line(1, take_first(sheet, first))?;
-    // Kept: the lines are counted by hand: `cut` hands out a line with the rest, and an iterator over lines would be one type more.
-    let mut line = 1;
-    while let Some((text, more)) = cut(rest, b'\n') {
-        line += 1;
+    // Line 1 is taken: the first piece of the rest, number 0, is line 2.
+    for (n, piece) in rest.split_inclusive(|b| *b == b'\n').enumerate() {
+        let line = n + 2;
+        let text = piece.strip_suffix(b"\n").ok_or(cut_off(line))?;
         at_line(line, take_line(sheet, table, text))?;
-        rest = more;
     }
-    if rest.is_empty() {
-        Ok(())
-    } else {
-        Err(cut_off(line + 1))
-    }
+    Ok(())
 }
 
 // Loads a file; what the sheet and the table held before is dropped. A refusal leaves both blank.
@@ -62,10 +57,10 @@ pub fn load(sheet: &mut Sheet, table: &mut Table, file: &[u8]) -> Result<(), Fil
 {
     sheet.clear();
     table.clear();
-    if let Err(fault) = load_lines(sheet, table, file) {
+    let loaded = load_lines(sheet, table, file);
+    if loaded.is_err() {
         sheet.clear();
         table.clear();
-        return Err(fault);
     }
-    Ok(())
+    loaded
 }
