@@ -52,21 +52,36 @@ fn a_round_at_its_ends(rt: HostRuntime) {
     assert!(rt; has_no_states(&&Round::new(b"")));
 }
 
+// A table of three states and two steps: the first state is no start.
+fn fill(table: &mut Table) -> Result<(), Fail> {
+    for (number, letter) in [7, 8, 9].iter().enumerate() {
+        numbered(table.add_state(number, number > 0, *letter)).map_err(|_| Fail::new(
+            "a state is refused",
+        ))?;
+    }
+    for to in [0, 2] {
+        numbered(table.add_step(1, to)).map_err(|_| Fail::new("a step is refused"))?;
+    }
+    Ok(())
+}
+
 #[test]
-fn a_table_takes_lines_and_answers(rt: HostRuntime) -> Result<(), Fail> {
+fn a_table_refuses_lines(rt: HostRuntime) -> Result<(), Fail> {
     let heap = rt.alloc();
     let mut states = vec![in heap; State::BLANK; 3]?;
     let mut steps = vec![in heap; Step::BLANK; 2]?;
     let mut table = Table::new(states.as_mut_slice(), steps.as_mut_slice());
-    assert!(rt; has_no_states(&table));
     assert_eq!(rt;
         numbered(table.add_state(1, true, 7)),
         Err(18),
         "numbers count on from 0"
     );
-    assert_eq!(rt; numbered(table.add_state(0, false, 7)), Ok(()));
-    assert_eq!(rt; numbered(table.add_state(1, true, 8)), Ok(()));
-    assert_eq!(rt; numbered(table.add_state(2, true, 9)), Ok(()));
+    assert_eq!(rt;
+        numbered(table.add_step(0, 0)),
+        Err(18),
+        "no state is declared"
+    );
+    fill(&mut table)?;
     assert_eq!(rt;
         numbered(table.add_state(3, true, 9)),
         Err(19),
@@ -83,14 +98,23 @@ fn a_table_takes_lines_and_answers(rt: HostRuntime) -> Result<(), Fail> {
         "the source is not declared"
     );
     assert_eq!(rt;
-        numbered(table.add_step(0, 3)),
+        numbered(table.add_step(1, 3)),
         Err(18),
         "the target is not declared"
     );
-    assert_eq!(rt; numbered(table.add_step(1, 0)), Ok(()));
     assert_eq!(rt; numbered(table.add_step(0, 1)), Err(18), "the source falls");
-    assert_eq!(rt; numbered(table.add_step(1, 2)), Ok(()));
     assert_eq!(rt; numbered(table.add_step(2, 0)), Err(19), "the area is full");
+    Ok(())
+}
+
+#[test]
+fn a_table_at_its_ends(rt: HostRuntime) -> Result<(), Fail> {
+    let heap = rt.alloc();
+    let mut states = vec![in heap; State::BLANK; 3]?;
+    let mut steps = vec![in heap; Step::BLANK; 2]?;
+    let mut table = Table::new(states.as_mut_slice(), steps.as_mut_slice());
+    assert!(rt; has_no_states(&table));
+    fill(&mut table)?;
     assert_eq!(rt;
         (table.count(), table.width(), table.start_count()),
         (3, 32768, 2)
@@ -125,7 +149,7 @@ fn a_table_takes_lines_and_answers(rt: HostRuntime) -> Result<(), Fail> {
 }
 
 #[test]
-fn a_layer_at_its_ends(rt: HostRuntime) -> Result<(), Fail> {
+fn a_layer_at_its_ends(rt: HostRuntime) {
     let round = Round::new(b"\x00\x02");
     let layer = StuckLayer::new(&round, 7);
     assert_eq!(rt; numbered(layer.fitting()), Ok(()));
@@ -160,6 +184,11 @@ fn a_layer_at_its_ends(rt: HostRuntime) -> Result<(), Fail> {
         (layer.step(2, 0), layer.step(2, 1), layer.step(4, 0)),
         (Some(3), None, None)
     );
+}
+
+#[test]
+fn a_layer_that_does_not_fit(rt: HostRuntime) -> Result<(), Fail> {
+    let round = Round::new(b"\x00\x02");
     let beyond = StuckLayer::new(&round, 8);
     assert_eq!(rt; numbered(beyond.fitting()), Err(20));
     assert_eq!(rt; beyond.width(), 0);
