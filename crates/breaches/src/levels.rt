@@ -11,8 +11,8 @@ use pairs::level::{Found, LastStep, Tried};
 use pairs::pair::Pair;
 use std::ops::ControlFlow;
 
+// Kept: each of the three long clauses stands once, so a name for machine, reader and standings would serve one clause each.
 impl<M: Machine> Exploration<'_, M> {
-    // Kept: machine, reader and number of standings stand in each clause as the definitions of `pairs` take them.
     // Keeps the starts; or breaks with a start that is itself a breach.
     pub(crate) fn begin(&self, kept: &mut KeptPairs) -> Tried
         requires fresh { tally_of kept.old ≡ nothing_kept }

@@ -12,7 +12,7 @@ ghost use Rattle.charts.specs.Watch.{least, most};
 use crate::state::State;
 
 // The labels, the record of each standing (the automaton's states), and 256 next standings for each, one for each letter.
-// Kept: the areas and their forms are given, and two counts say how much of the three is filled.
+// Kept: the three areas are lent, by a rule of the project, and two counts say how much of them is filled.
 #[derive(Drop)]
 pub struct Chart<'a> {
     labels: &'a mut [u32],

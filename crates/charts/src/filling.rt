@@ -10,8 +10,8 @@ use crate::standings::{all_standings, first_standing};
 use formulas::breach::BreachFormula;
 use meaning::refusals::FillingFault;
 
-// Kept: the three areas are the chart's own, and a struct of three loans would be one type more between it and them.
 // Fills areas that are wholly usable: at most 512 labels and standings. The table is for the labels one letter earlier.
+// Kept: the three areas are the chart's own, and a struct of three loans would be one type more between it and them.
 fn fill_places(
     formula: &BreachFormula,
     labels: &mut [u32],

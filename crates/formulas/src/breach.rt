@@ -57,7 +57,7 @@ impl BreachFormula {
 }
 
 // A place of a number in a list.
-// Kept: one call of `position`, under the name and the fact that proofs go by.
+// Kept: one call of `position`, under the name and the fact that proofs go by; one function for all would be no plainer.
 fn place_in(numbers: &[u16], number: u16) -> Option<usize>
     ensures { MatchOption result ((j : ℕ) → j < length numbers.now → slice_index numbers.now j ≡ number → ⊥) (λ j. (j < length numbers.now) × (slice_index numbers.now j ≡ number)) }
 {

@@ -24,7 +24,7 @@ pub enum Entry<'a> {
 }
 
 // Where the byte `at` first stands.
-// Kept: one call of `position`, under the name and the fact that proofs go by.
+// Kept: one call of `position`, under the name and the fact that proofs go by; one function for all would be no plainer.
 fn first(text: &[u8], at: u8) -> Option<usize>
     ensures { result ≡ position (λ b. b == at) text.now }
 {
@@ -80,6 +80,7 @@ pub fn read_number(text: &[u8]) -> Option<u32>
     }
 }
 
+// Kept: a rule of the project tells lines apart by slice patterns.
 fn signals_entry(line: &[u8]) -> Option<Entry<'_>>
     ensures { mapped shown result ≡ mapped signals (after (codes "signals,") line.now) }
 {

@@ -14,9 +14,9 @@ use meaning::refusals::RuleFault;
 use texts::words::{Binary, Leaf, Unary, Word};
 
 impl Reader {
-    // Kept: a rule of the project has two readings that lead into each other at every `!`; all that they share is `read`.
     // Stores the positive reading of the rule that `rest` begins with, and answers its number and what follows it.
     // No number: the store is full, which does not stop the reading.
+    // Kept: a rule of the project has two readings that lead into each other at every `!`; all that they share is `read`.
     #[cycle(readings)]
     pub fn positive<'t>(
         &self,

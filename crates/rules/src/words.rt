@@ -10,6 +10,7 @@ use std::str::from_utf8;
 use texts::words::{Binary, Leaf, Unary, Word};
 
 // The words of one letter.
+// Kept: a rule of the project tells them by cases of characters.
 fn operator(c: u8) -> Option<Word>
     ensures { result ≡ operator_word c }
 {

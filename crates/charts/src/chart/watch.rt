@@ -35,7 +35,7 @@ impl<'a> Chart<'a> {
     }
 
     // What an event does at each state.
-    // Kept: the chart matches its own state together with the event, in one place.
+    // Kept: a rule of the project has the chart match its own state together with the event.
     fn react(&mut self, event: Event) -> Result<Scanned, ScanningFault>
         ensures reacts { (result, self.new.state) ≡ reacted self.old.standings.now self.old.next.now self.old.state event }
         ensures stays { SameAreas self.old self.new }

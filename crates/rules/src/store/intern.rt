@@ -10,7 +10,7 @@ use fixed::FixedList;
 use formulas::node::Node;
 
 // The place of a node.
-// Kept: one call of `position`, under the name and the fact that proofs go by.
+// Kept: one call of `position`, under the name and the fact that proofs go by; one function for all would be no plainer.
 fn find(nodes: &[Node], node: Node) -> Option<usize>
     ensures { MatchOption result (Lacks nodes.now node) (Finds nodes.now node) }
 {
