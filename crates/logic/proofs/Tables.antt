@@ -1,14 +1,15 @@
 -- Any table that says yes to exactly the breaches has an entry for each standing. Assumes nothing.
-use Rattle.std.proofs.Common.{◌≡◌, ℕ, zero, suc, ◌<◌, ◌≤◌, Bool, cond, eqb, List, [], ◌∷◌, ◌++◌, sym, ap, ◌∙◌, subst, arith}
+use Rattle.std.proofs.Common.{◌≡◌, ℕ, zero, suc, ◌<◌, ◌≤◌, Bool, cond, eqb, List, [], ◌∷◌, ◌++◌, sym, refl, ap, ◌∙◌, subst, arith}
 use mathlib.Core.Logic.Iff
-use mathlib.Core.Logic.{∥∥₁_map}
+use mathlib.Core.Logic.{∥∥₁_elim, ∥∥₁_map}
+use mathlib.Core.HLevel.{⊥_prop}
 use mathlib.Core.List.{foldl, foldl-append}
 use native.Mathlib.Decide.{dec_lt}
 use Rattle.logic.specs.Formula.{Formula, Letters}
 use Rattle.logic.specs.Witness.{Breach}
-use Rattle.logic.specs.Counting.{Classes, More}
+use Rattle.logic.specs.Counting.{Classes, Number, Fits, Part, Exceeds, More, RoomIsTold}
 use Rattle.logic.specs.Standings.{BreachOfAny, Standing, SameLabel, SameStanding, Table}
-use Rattle.logic.specs.Statements.{NoSmallerTable, NoSmallerOfAny, LabelsCounted, StandingsCounted}
+use Rattle.logic.specs.Statements.{NoSmallerTable, NoSmallerOfAny, LabelsCounted, StandingsCounted, LabelRooms, StandingRooms}
 
 -- x, with n given up for c
 moved : ℕ → ℕ → ℕ → ℕ
@@ -99,13 +100,65 @@ module _ {X : Type 0} (In : X → Type 0) (Same : X → X → Type 0) (turn : (u
   pub one_count : (m n : ℕ) → Classes In Same m → Classes In Same n → m ≡ n
   one_count m n c d = omega (arith, no_more m n c.one c.inside c.differ d, no_more n m d.one d.inside d.differ c)
 
-  -- what exceeds a room does not fit it
-  pub not_both : (room : ℕ) → More room In Same → (n : ℕ) → n ≤ room → Classes In Same n → ⊥
-  not_both room x n small d =
+  -- the picked things of a part that are different
+  pub more_of : (room : ℕ) → Part In Same (suc room) → More room In Same
+  more_of room x = record {
+    pick = x.counted.one;
+    inside = λ i l. let k = x.counted.inside i (omega arith) in subst In (sym k.2) (x.inside k.0 k.1);
+    differ = λ i j less l. x.counted.differ i j less (omega arith);
+  }
+
+  -- so many and one that differ do not fit a room
+  pub more_not : (room : ℕ) → More room In Same → (n : ℕ) → n ≤ room → Classes In Same n → ⊥
+  more_not room x n small d =
       let h = no_more (suc room) n x.pick (λ i l. x.inside i (omega arith)) (λ i j less l. x.differ i j less (omega arith)) d in omega arith
+
+  -- what exceeds a room does not fit it
+  pub not_both : (room : ℕ) → Part In Same (suc room) → (n : ℕ) → n ≤ room → Classes In Same n → ⊥
+  not_both room x n small d = more_not room (more_of room x) n small d
+
+  module _ (self : (u : X) → Same u u) where
+    pub part_of : (room : ℕ) → More room In Same → Part In Same (suc room)
+    part_of room x = record {
+      pick = x.pick;
+      inside = λ i l. x.inside i (omega arith);
+      counted = record {
+        one = x.pick;
+        inside = λ i l. (i, l, refl);
+        covers = λ u h. (h.0, h.1, subst (λ v. Same v (x.pick h.0)) (sym h.2) (self (x.pick h.0)));
+        differ = λ i j less l. x.differ i j less (omega arith);
+      };
+    }
+
+    -- classes above a room
+    pub part_above : (room n : ℕ) → room < n → Classes In Same n → Part In Same (suc room)
+    part_above room n l d =
+        part_of room (record { pick = d.one; inside = λ i h. d.inside i (omega arith); differ = λ i j less h. d.differ i j less (omega arith) })
+
+    exceeds_at : (room n : ℕ) → Number In Same n → Exceeds room In Same → room < n
+    exceeds_at room n c x =
+        elim (dec_lt room n) [ yes l ↦ l | no o ↦ absurd (∥∥₁_elim c ⊥_prop (λ d. ∥∥₁_elim x ⊥_prop (λ m. not_both room m n (omega arith) d))) ]
+
+    fits_at : (room n : ℕ) → Number In Same n → Fits room In Same → n ≤ room
+    fits_at room n c x =
+        elim (dec_lt room n)
+        [ yes l ↦ absurd (∥∥₁_elim c ⊥_prop (λ d. ∥∥₁_elim x ⊥_prop (λ y. omega (arith, one_count n y.0 d y.2)))) | no o ↦ omega arith ]
+
+    pub room_is_told : (room : ℕ) → RoomIsTold In Same room
+    room_is_told room = record {
+      differ = (λ h. ∥∥₁_map h (more_of room), λ h. ∥∥₁_map h (part_of room));
+      exceeds = λ n c. (exceeds_at room n c, λ l. ∥∥₁_map c (part_above room n l));
+      fits = λ n c. (fits_at room n c, λ l. ∥∥₁_map c (λ d. (n, l, d)));
+    }
 
 pub labels_counted : LabelsCounted
 labels_counted ks m n = one_count Letters (SameLabel ks) (λ u v e. sym e) (λ u v w p q. p ∙ q) m n
 
 pub standings_counted : StandingsCounted
 standings_counted f ks m n = one_count Letters (SameStanding ks (Breach f)) (λ u v e ℓ. Iff.symm (e ℓ)) (λ u v w p q ℓ. Iff.trans (p ℓ) (q ℓ)) m n
+
+pub label_rooms : LabelRooms
+label_rooms ks = room_is_told Letters (SameLabel ks) (λ u v e. sym e) (λ u v w p q. p ∙ q) (λ u. refl)
+
+pub standing_rooms : StandingRooms
+standing_rooms f ks = room_is_told Letters (SameStanding ks (Breach f)) (λ u v e ℓ. Iff.symm (e ℓ)) (λ u v w p q ℓ. Iff.trans (p ℓ) (q ℓ)) (λ u ℓ. (λ h. h, λ h. h))

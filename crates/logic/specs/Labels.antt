@@ -15,10 +15,11 @@ pub data Kept (f : Formula) : Formula → Type 0 where
   a_release : {a b : Formula} → Sub (release a b) f → Kept f (release a b)
   an_operand : {a : Formula} → Sub (next a) f → Kept f a
 
--- ks lists the kept formulas of f, and the kept formulas of all the formulas fs
+-- ks lists the kept formulas of f
 abbrev pub ListsKept : Formula → List Formula → Type 0
 ListsKept f ks = (g : Formula) → Mem g ks ↔ ∥ Kept f g ∥₁
 
+-- ks lists the kept formulas of all the formulas fs
 abbrev pub ListsKeptOf : List Formula → List Formula → Type 0
 ListsKeptOf fs ks = (g : Formula) → Mem g ks ↔ ∥ ((f : Formula) × Mem f fs × Kept f g) ∥₁
 
@@ -26,15 +27,17 @@ ListsKeptOf fs ks = (g : Formula) → Mem g ks ↔ ∥ ((f : Formula) × Mem f f
 abbrev pub Closed : List Formula → Type 0
 Closed ks = (f g : Formula) → Mem f ks → Kept f g → Mem g ks
 
--- the kept formulas of f, computed: each once
+-- a list with x put in, unless it holds x
 abbrev pub add_once : {A : Type 0} → Discrete A → A → List A → List A
 add_once d x [] = x ∷ []
 add_once d x (y ∷ ys) = elim (d x y) [ yes e ↦ y ∷ ys | no n ↦ y ∷ add_once d x ys ]
 
+-- a list with each of its elements once
 abbrev pub once : {A : Type 0} → Discrete A → List A → List A
 once d [] = []
 once d (x ∷ xs) = add_once d x (once d xs)
 
+-- what f keeps besides itself, computed: each subformula with next, until or release at its root, and the operand of each next
 abbrev pub temporal : Formula → List Formula
 temporal tru = []
 temporal fls = []
@@ -45,6 +48,7 @@ temporal (next a) = next a ∷ (a ∷ temporal a)
 temporal (until a b) = until a b ∷ (temporal a ++ temporal b)
 temporal (release a b) = release a b ∷ (temporal a ++ temporal b)
 
+-- the kept formulas of f, computed, each once
 abbrev pub kept : Formula → List Formula
 kept f = once same (f ∷ temporal f)
 

@@ -6,7 +6,7 @@ use Rattle.logic.specs.Signals.{Agree, DoTheSame}
 use Rattle.logic.specs.Witness.{Witness, Breach}
 use Rattle.logic.specs.Sat.{sat}
 use Rattle.logic.specs.Labels.{ListsKept, ListsKeptOf, kept, NoTwice, Closed, Labels, label, back}
-use Rattle.logic.specs.Counting.{Classes}
+use Rattle.logic.specs.Counting.{Classes, RoomIsTold}
 use Rattle.logic.specs.Standings.{BreachOfAny, Decided, hit, hits_any, IsLabel, Standing, StandingsRight, ListsLabels, ChartRight, SameLabel, SameStanding, Table}
 
 -- a word is a breach exactly when the recursion says so
@@ -17,18 +17,19 @@ BreachIsSat = (f : Formula) (w : List ℕ) → Breach f w ↔ (sat f w ≡ true)
 abbrev pub LabelIs : Type 0
 LabelIs = (ks : List Formula) (w : List ℕ) (ℓ : List Bool) → Labels ks w ℓ ↔ (ℓ ≡ label ks w)
 
--- what is kept of a kept formula is kept too: of one formula, and of several
+-- what is kept of a kept formula of f is kept of f too
 abbrev pub KeptClosed : Type 0
 KeptClosed = (f : Formula) (ks : List Formula) → ListsKept f ks → Closed ks
 
+-- the same of several formulas together
 abbrev pub KeptOfClosed : Type 0
 KeptOfClosed = (fs ks : List Formula) → ListsKeptOf fs ks → Closed ks
 
--- there is such a list for every formula
+-- every formula's kept formulas are listed by `kept`
 abbrev pub KeptListed : Type 0
 KeptListed = (f : Formula) → ListsKept f (kept f)
 
--- and it holds each of them once
+-- that list holds each of them once
 abbrev pub KeptOnce : Type 0
 KeptOnce = (f : Formula) → NoTwice (kept f)
 
@@ -52,10 +53,11 @@ OnlyNamedSignalsCount = (f : Formula) (ks : List Formula) → ListsKept f ks →
 abbrev pub LabelBack : Type 0
 LabelBack = (ks : List Formula) → Closed ks → (s : ℕ) (w : List ℕ) → label ks (s ∷ w) ≡ back ks s (label ks w)
 
--- the label of a word tells whether it is a breach of one of several formulas, and of one formula
+-- the label of a word tells whether it is a breach of one of several formulas
 abbrev pub AnyDecided : Type 0
 AnyDecided = (fs ks : List Formula) → ((f : Formula) → Mem f fs → Mem f ks) → Decided ks (BreachOfAny fs) (hits_any fs ks)
 
+-- the label of a word tells whether it is a breach of a formula
 abbrev pub OneDecided : Type 0
 OneDecided = (f : Formula) (ks : List Formula) → Mem f ks → Decided ks (Breach f) (hit f ks)
 
@@ -89,23 +91,34 @@ ToldApart =
 abbrev pub NoSmallerTable : Type 0
 NoSmallerTable = (f : Formula) (ks : List Formula) (m n : ℕ) → Classes Letters (SameStanding ks (Breach f)) m → Table (Breach f) n → m ≤ n
 
--- the same laws for several formulas together: standings, chart, smallest table
+-- the laws of the standings of several formulas together
 abbrev pub StandingsOfAny : Type 0
 StandingsOfAny = (fs ks : List Formula) → ListsKeptOf fs ks → StandingsRight ks (BreachOfAny fs) (hits_any fs ks)
 
+-- the chart of several formulas, run over a word, holds the standing after it, and says breach for exactly the breaches of any
 abbrev pub ChartOfAny : Type 0
 ChartOfAny =
     (fs ks : List Formula) → ListsKeptOf fs ks → (all : List (List Bool)) → ListsLabels ks all
     → (u : List ℕ) → Letters u → ChartRight ks (BreachOfAny fs) (hits_any fs ks) all u
 
+-- a table that says yes to exactly the breaches of any of them has at least an entry for each standing
 abbrev pub NoSmallerOfAny : Type 0
 NoSmallerOfAny =
     (fs ks : List Formula) (m n : ℕ) → Classes Letters (SameStanding ks (BreachOfAny fs)) m → Table (BreachOfAny fs) n → m ≤ n
 
--- the counts are one number each
+-- the labels have one number
 abbrev pub LabelsCounted : Type 0
 LabelsCounted = (ks : List Formula) (m n : ℕ) → Classes Letters (SameLabel ks) m → Classes Letters (SameLabel ks) n → m ≡ n
 
+-- the standings have one number
 abbrev pub StandingsCounted : Type 0
 StandingsCounted =
     (f : Formula) (ks : List Formula) (m n : ℕ) → Classes Letters (SameStanding ks (Breach f)) m → Classes Letters (SameStanding ks (Breach f)) n → m ≡ n
+
+-- labels exceed a room, or fit it, by their number
+abbrev pub LabelRooms : Type 0
+LabelRooms = (ks : List Formula) (room : ℕ) → RoomIsTold Letters (SameLabel ks) room
+
+-- so do standings
+abbrev pub StandingRooms : Type 0
+StandingRooms = (f : Formula) (ks : List Formula) (room : ℕ) → RoomIsTold Letters (SameStanding ks (Breach f)) room

@@ -6,7 +6,7 @@ ghost use Rattle.logic.specs.Statements.{BreachIsSat, EmptyHasNone, EmptyIsNoBre
 ghost use Rattle.logic.specs.Statements.{LabelIs, KeptClosed, KeptOfClosed, LabelBack};
 ghost use Rattle.logic.specs.Statements.{KeptListed, KeptOnce};
 ghost use Rattle.logic.specs.Statements.{OneDecided, AnyDecided, StandingsAreRight, StandingOneLetterLater, BreachByEmptyLabel, ChartIsRight, ToldApart, StandingsOfAny, ChartOfAny};
-ghost use Rattle.logic.specs.Statements.{NoSmallerTable, NoSmallerOfAny, LabelsCounted, StandingsCounted};
+ghost use Rattle.logic.specs.Statements.{NoSmallerTable, NoSmallerOfAny, LabelsCounted, StandingsCounted, LabelRooms, StandingRooms};
 ghost use Rattle.logic.specs.Examples.{Examples};
 ghost use Rattle.logic.specs.Masks.{MasksAreRight, MasksDiffer};
 
@@ -104,6 +104,14 @@ pub fn labels_have_one_number()
 
 pub fn standings_have_one_number()
     ensures { StandingsCounted }
+{}
+
+pub fn labels_exceed_a_room_or_fit_it()
+    ensures { LabelRooms }
+{}
+
+pub fn standings_exceed_a_room_or_fit_it()
+    ensures { StandingRooms }
 {}
 
 pub fn the_examples_have_these_counts()
