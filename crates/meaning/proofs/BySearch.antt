@@ -80,10 +80,12 @@ first_shown = (
 pub first_refused : Searches f sample_machine 0 (9 ∷ []) (Err PairsExceed, 9 ∷ [])
 first_refused = (
   record { a_start = cons≢nil; few_states = omega arith; long_area = omega arith },
-  λ s. ∥∥₁_elim s ⊥_prop
-      (λ x. ∥∥₁_elim x.2 ⊥_prop
-      (λ y. let k = y.2.covers (0 ∷ []) (start_alone, at_least_two x.0 x.1.breach) in omega (arith, k.1, y.1))),
-  λ c. c.0 (0 ∷ (1 ∷ [])) two_states,
+  (
+    λ s. ∥∥₁_elim s ⊥_prop
+        (λ x. ∥∥₁_elim x.2 ⊥_prop
+        (λ y. let k = y.2.covers (0 ∷ []) (start_alone, at_least_two x.0 x.1.breach) in omega (arith, k.1, y.1))),
+    λ c. c.0 (0 ∷ (1 ∷ [])) two_states,
+  ),
   refl,
 )
 
@@ -228,9 +230,11 @@ second_clear = (
 pub second_refused : Searches f₂ sample_machine 2 (9 ∷ (9 ∷ (9 ∷ []))) (Err PairsExceed, 9 ∷ (9 ∷ (9 ∷ [])))
 second_refused = (
   record { a_start = cons≢nil; few_states = omega arith; long_area = omega arith },
-  λ s. ∥∥₁_elim s ⊥_prop (λ x. second_none x.0 x.1.breach),
-  λ c. ∥∥₁_elim c.1 ⊥_prop
-      (λ y. omega (arith, y.1, one_count (Walk sample_machine) (SamePair f₂ sample_machine) (pair_turn f₂ sample_machine) (pair_join f₂ sample_machine) 3 y.0 three_pairs y.2)),
+  (
+    λ s. ∥∥₁_elim s ⊥_prop (λ x. second_none x.0 x.1.breach),
+    λ c. ∥∥₁_elim c.1 ⊥_prop
+        (λ y. omega (arith, y.1, one_count (Walk sample_machine) (SamePair f₂ sample_machine) (pair_turn f₂ sample_machine) (pair_join f₂ sample_machine) 3 y.0 three_pairs y.2)),
+  ),
   refl,
 )
 
@@ -351,12 +355,14 @@ stuck_shown pairs w many long =
 pub stuck_refused : (w : List ℕ) → 4 < length w → Searches f₂ stuck_machine 4 w (Err PairsExceed, w)
 stuck_refused w long = (
   record { a_start = cons≢nil; few_states = omega arith; long_area = long },
-  λ s. ∥∥₁_elim s ⊥_prop
-      (λ x.
-      let four : length x.0 ≡ 4 = omega (arith, at_least_four x.0 x.1.breach, x.1.least (0 ∷ 1 ∷ 2 ∷ 3 ∷ []) four_states) in
-      ∥∥₁_elim (subst (ShorterFit f₂ stuck_machine 4) four x.2) ⊥_prop
-      (λ y. omega (arith, y.1, one_count (Shorter stuck_machine 4) (SamePair f₂ stuck_machine) (pair_turn f₂ stuck_machine) (pair_join f₂ stuck_machine) 5 y.0 five_pairs y.2))),
-  λ c. c.0 (0 ∷ 1 ∷ 2 ∷ 3 ∷ []) four_states,
+  (
+    λ s. ∥∥₁_elim s ⊥_prop
+        (λ x.
+        let four : length x.0 ≡ 4 = omega (arith, at_least_four x.0 x.1.breach, x.1.least (0 ∷ 1 ∷ 2 ∷ 3 ∷ []) four_states) in
+        ∥∥₁_elim (subst (ShorterFit f₂ stuck_machine 4) four x.2) ⊥_prop
+        (λ y. omega (arith, y.1, one_count (Shorter stuck_machine 4) (SamePair f₂ stuck_machine) (pair_turn f₂ stuck_machine) (pair_join f₂ stuck_machine) 5 y.0 five_pairs y.2))),
+    λ c. c.0 (0 ∷ 1 ∷ 2 ∷ 3 ∷ []) four_states,
+  ),
   refl,
 )
 

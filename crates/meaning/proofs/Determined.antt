@@ -183,7 +183,7 @@ module _ (r : Ruled) (g : GoodRule (Some r)) (m : Meaning) (p : ℕ) (w : List �
   searching_one (Ok (Shown k)) w₁ (Err NoStart) w₂ x y = absurd (clash r g (λ f. Searches f m p w (Ok (Shown k), w₁)) (λ f. Searches f m p w (Err NoStart, w₂)) (λ f s t. s.0.a_start t.0) x y)
   searching_one (Ok (Shown k)) w₁ (Err ManyStates) w₂ x y = absurd (clash r g (λ f. Searches f m p w (Ok (Shown k), w₁)) (λ f. Searches f m p w (Err ManyStates, w₂)) (λ f s t. omega (arith, t.1, s.0.few_states)) x y)
   searching_one (Ok (Shown k)) w₁ (Err ShortWalkArea) w₂ x y = absurd (clash r g (λ f. Searches f m p w (Ok (Shown k), w₁)) (λ f. Searches f m p w (Err ShortWalkArea, w₂)) (λ f s t. omega (arith, t.2, s.0.long_area)) x y)
-  searching_one (Ok (Shown k)) w₁ (Err PairsExceed) w₂ x y = absurd (clash r g (λ f. Searches f m p w (Ok (Shown k), w₁)) (λ f. Searches f m p w (Err PairsExceed, w₂)) (λ f s t. t.1 (∣ (take k w₁, s.1.shortest, subst (ShorterFit f m p) (sym (shown_length k w₁ s.1.within)) s.1.fit_before) ∣₁)) x y)
+  searching_one (Ok (Shown k)) w₁ (Err PairsExceed) w₂ x y = absurd (clash r g (λ f. Searches f m p w (Ok (Shown k), w₁)) (λ f. Searches f m p w (Err PairsExceed, w₂)) (λ f s t. t.1.0 (∣ (take k w₁, s.1.shortest, subst (ShorterFit f m p) (sym (shown_length k w₁ s.1.within)) s.1.fit_before) ∣₁)) x y)
   searching_one (Ok (Clear n)) w₁ (Ok (Shown j)) w₂ x y = absurd (clash r g (λ f. Searches f m p w (Ok (Clear n), w₁)) (λ f. Searches f m p w (Ok (Shown j), w₂)) (λ f s t. s.1.none _ t.1.shortest.breach) x y)
   searching_one (Ok (Clear n)) w₁ (Ok (Clear i)) w₂ x y = (
     ap (λ z. Ok (Clear z)) (agree r g (i ≡ n) (ℕ_set _ _) (λ f. Searches f m p w (Ok (Clear n), w₁)) (λ f. Searches f m p w (Ok (Clear i), w₂)) (λ f s t. pairs_are_unique f m i n t.1.number s.1.number) x y),
@@ -193,7 +193,7 @@ module _ (r : Ruled) (g : GoodRule (Some r)) (m : Meaning) (p : ℕ) (w : List �
   searching_one (Ok (Clear n)) w₁ (Err NoStart) w₂ x y = absurd (clash r g (λ f. Searches f m p w (Ok (Clear n), w₁)) (λ f. Searches f m p w (Err NoStart, w₂)) (λ f s t. s.0.a_start t.0) x y)
   searching_one (Ok (Clear n)) w₁ (Err ManyStates) w₂ x y = absurd (clash r g (λ f. Searches f m p w (Ok (Clear n), w₁)) (λ f. Searches f m p w (Err ManyStates, w₂)) (λ f s t. omega (arith, t.1, s.0.few_states)) x y)
   searching_one (Ok (Clear n)) w₁ (Err ShortWalkArea) w₂ x y = absurd (clash r g (λ f. Searches f m p w (Ok (Clear n), w₁)) (λ f. Searches f m p w (Err ShortWalkArea, w₂)) (λ f s t. omega (arith, t.2, s.0.long_area)) x y)
-  searching_one (Ok (Clear n)) w₁ (Err PairsExceed) w₂ x y = absurd (clash r g (λ f. Searches f m p w (Ok (Clear n), w₁)) (λ f. Searches f m p w (Err PairsExceed, w₂)) (λ f s t. t.2 (s.1.none, s.1.fit_all)) x y)
+  searching_one (Ok (Clear n)) w₁ (Err PairsExceed) w₂ x y = absurd (clash r g (λ f. Searches f m p w (Ok (Clear n), w₁)) (λ f. Searches f m p w (Err PairsExceed, w₂)) (λ f s t. t.1.1 (s.1.none, s.1.fit_all)) x y)
   searching_one (Err SearchBlank) w₁ (Ok (Shown j)) w₂ x y = absurd (clash r g (λ f. Searches f m p w (Err SearchBlank, w₁)) (λ f. Searches f m p w (Ok (Shown j), w₂)) (λ f s t. s) x y)
   searching_one (Err SearchBlank) w₁ (Ok (Clear i)) w₂ x y = absurd (clash r g (λ f. Searches f m p w (Err SearchBlank, w₁)) (λ f. Searches f m p w (Ok (Clear i), w₂)) (λ f s t. s) x y)
   searching_one (Err SearchBlank) w₁ (Err SearchBlank) w₂ x y = absurd (clash r g (λ f. Searches f m p w (Err SearchBlank, w₁)) (λ f. Searches f m p w (Err SearchBlank, w₂)) (λ f s t. s) x y)
@@ -222,13 +222,13 @@ module _ (r : Ruled) (g : GoodRule (Some r)) (m : Meaning) (p : ℕ) (w : List �
   searching_one (Err ShortWalkArea) w₁ (Err ManyStates) w₂ x y = absurd (clash r g (λ f. Searches f m p w (Err ShortWalkArea, w₁)) (λ f. Searches f m p w (Err ManyStates, w₂)) (λ f s t. omega (arith, t.1, s.1)) x y)
   searching_one (Err ShortWalkArea) w₁ (Err ShortWalkArea) w₂ x y = (refl, agree r g (w₁ ≡ w₂) (list_set _ _) (λ f. Searches f m p w (Err ShortWalkArea, w₁)) (λ f. Searches f m p w (Err ShortWalkArea, w₂)) (λ f s t. s.3 ∙ sym t.3) x y)
   searching_one (Err ShortWalkArea) w₁ (Err PairsExceed) w₂ x y = absurd (clash r g (λ f. Searches f m p w (Err ShortWalkArea, w₁)) (λ f. Searches f m p w (Err PairsExceed, w₂)) (λ f s t. omega (arith, s.2, t.0.long_area)) x y)
-  searching_one (Err PairsExceed) w₁ (Ok (Shown j)) w₂ x y = absurd (clash r g (λ f. Searches f m p w (Err PairsExceed, w₁)) (λ f. Searches f m p w (Ok (Shown j), w₂)) (λ f s t. s.1 (∣ (take j w₂, t.1.shortest, subst (ShorterFit f m p) (sym (shown_length j w₂ t.1.within)) t.1.fit_before) ∣₁)) x y)
-  searching_one (Err PairsExceed) w₁ (Ok (Clear i)) w₂ x y = absurd (clash r g (λ f. Searches f m p w (Err PairsExceed, w₁)) (λ f. Searches f m p w (Ok (Clear i), w₂)) (λ f s t. s.2 (t.1.none, t.1.fit_all)) x y)
+  searching_one (Err PairsExceed) w₁ (Ok (Shown j)) w₂ x y = absurd (clash r g (λ f. Searches f m p w (Err PairsExceed, w₁)) (λ f. Searches f m p w (Ok (Shown j), w₂)) (λ f s t. s.1.0 (∣ (take j w₂, t.1.shortest, subst (ShorterFit f m p) (sym (shown_length j w₂ t.1.within)) t.1.fit_before) ∣₁)) x y)
+  searching_one (Err PairsExceed) w₁ (Ok (Clear i)) w₂ x y = absurd (clash r g (λ f. Searches f m p w (Err PairsExceed, w₁)) (λ f. Searches f m p w (Ok (Clear i), w₂)) (λ f s t. s.1.1 (t.1.none, t.1.fit_all)) x y)
   searching_one (Err PairsExceed) w₁ (Err SearchBlank) w₂ x y = absurd (clash r g (λ f. Searches f m p w (Err PairsExceed, w₁)) (λ f. Searches f m p w (Err SearchBlank, w₂)) (λ f s t. t) x y)
   searching_one (Err PairsExceed) w₁ (Err NoStart) w₂ x y = absurd (clash r g (λ f. Searches f m p w (Err PairsExceed, w₁)) (λ f. Searches f m p w (Err NoStart, w₂)) (λ f s t. s.0.a_start t.0) x y)
   searching_one (Err PairsExceed) w₁ (Err ManyStates) w₂ x y = absurd (clash r g (λ f. Searches f m p w (Err PairsExceed, w₁)) (λ f. Searches f m p w (Err ManyStates, w₂)) (λ f s t. omega (arith, t.1, s.0.few_states)) x y)
   searching_one (Err PairsExceed) w₁ (Err ShortWalkArea) w₂ x y = absurd (clash r g (λ f. Searches f m p w (Err PairsExceed, w₁)) (λ f. Searches f m p w (Err ShortWalkArea, w₂)) (λ f s t. omega (arith, t.2, s.0.long_area)) x y)
-  searching_one (Err PairsExceed) w₁ (Err PairsExceed) w₂ x y = (refl, agree r g (w₁ ≡ w₂) (list_set _ _) (λ f. Searches f m p w (Err PairsExceed, w₁)) (λ f. Searches f m p w (Err PairsExceed, w₂)) (λ f s t. s.3 ∙ sym t.3) x y)
+  searching_one (Err PairsExceed) w₁ (Err PairsExceed) w₂ x y = (refl, agree r g (w₁ ≡ w₂) (list_set _ _) (λ f. Searches f m p w (Err PairsExceed, w₁)) (λ f. Searches f m p w (Err PairsExceed, w₂)) (λ f s t. s.2 ∙ sym t.2) x y)
 
 -- with a blank chart
 blank_one : (w : List ℕ) (x y : Result Verdict SearchingFault × List ℕ) → x ≡ (Err SearchBlank, w) → y ≡ (Err SearchBlank, w) → AlikeSearched x.0 x.1 y.0 y.1
@@ -302,7 +302,7 @@ good_or_bad r c o s p q = said_line r c o None (Some s) p q ⊥ ⊥_prop (λ e. 
 one_said : (r : Rooms) (c : Content) (o : Option Entry) (s t : LineFault) → SaidOfLine r c o (Some s) → SaidOfLine r c o (Some t) → s ≡ t
 one_said r c o s t p q = said_line r c o (Some s) (Some t) p q (s ≡ t) (said_set s t) (λ e. some_same s t e)
 
-not_good_and_bad : (r : Rooms) (c : Content) (n : ℕ) (ls : List Line) (x : FileFault) → AllGood r c ls → FirstBad r c n ls x → ⊥
+pub not_good_and_bad : (r : Rooms) (c : Content) (n : ℕ) (ls : List Line) (x : FileFault) → AllGood r c ls → FirstBad r c n ls x → ⊥
 not_good_and_bad r c n [] x p q = q
 not_good_and_bad r c n (l ∷ ls) x p q =
     ⊎_elim (λ b. good_or_bad r c (formed c l) x.fault p.0 b.1) (λ b. not_good_and_bad r (added_if c (formed c l)) (n + 1) ls x p.1 b.1) q

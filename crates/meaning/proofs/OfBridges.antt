@@ -77,7 +77,7 @@ standing_classes f n = classes_alike Letters (lists.SameStanding (kept f) (Breac
 
 -- ---- sameness is an equivalence
 
-label_turn : (f : Formula) (u v : List ℕ) → SameLabel f u v → SameLabel f v u
+pub label_turn : (f : Formula) (u v : List ℕ) → SameLabel f u v → SameLabel f v u
 label_turn f u v h g k = Iff.symm (h g k)
 
 pub label_join : (f : Formula) (u v w : List ℕ) → SameLabel f u v → SameLabel f v w → SameLabel f u w

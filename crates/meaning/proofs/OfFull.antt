@@ -11,7 +11,7 @@ use Rattle.logic.specs.Rule.{Rule, negated}
 use Rattle.logic.specs.Labels.{NoTwice, once, kept}
 use Rattle.logic.specs.Counting.{Classes, Exceeds}
 use Rattle.logic.proofs.Kept.{of_once, once_in, once_once, kept_listed, kept_once, at_place, no_twice_apart}
-use Rattle.logic.proofs.Tables.{not_both}
+use Rattle.logic.proofs.Tables.{not_both, part_above}
 use Rattle.meaning.specs.Bytes.{Text}
 use Rattle.meaning.specs.Written.{written, Means}
 use Rattle.meaning.specs.Sheets.{Equal, Used, KeptOf}
@@ -47,7 +47,7 @@ module _ (In : Formula → Type 0) (xs : List Formula) (once_each : NoTwice xs) 
       to h = elim (dec_lt m (length xs)) [ yes l ↦ l | no n ↦ absurd (∥∥₁_elim h ⊥_prop (λ k. not_both In Equal (λ u v e. sym e) (λ u v w p q. p ∙ q) m k (length xs) (omega arith) listed)) ]
 
       from : m < length xs → Exceeds m In Equal
-      from l = ∣ record { pick = listed.one; inside = λ i b. listed.inside i (omega arith); differ = λ i j less b e. listed.differ i j less (omega arith) e } ∣₁
+      from l = ∣ part_above In Equal (λ u v e. sym e) (λ u v w p q. p ∙ q) (λ u. refl) m (length xs) l listed ∣₁
 
 -- ---- subformulas
 

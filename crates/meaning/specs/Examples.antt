@@ -18,6 +18,7 @@ use Rattle.meaning.specs.Faults.{text_fault}
 use Rattle.meaning.specs.Kinds.{table_meaning, stuck_meaning, fitting}
 use Rattle.meaning.specs.Files.{ended, cut, lines, content, lines_in, entry}
 
+-- the names `stop` and `full`
 abbrev pub two_names : List Text
 two_names = codes "stop" ∷ (codes "full" ∷ [])
 
@@ -30,6 +31,7 @@ times (suc n) t = t ++ times n t
 abbrev pub fault : Text → Option Rattle.meaning.specs.declared.refusals.RuleFault.RuleFault
 fault t = text_fault two_names t
 
+-- texts and their faults
 abbrev pub TextExamples : Type 0
 TextExamples = record {
   wrong_word : fault (codes "G doors") ≡ Some (WrongWord 2);
@@ -52,6 +54,7 @@ TextExamples = record {
   blank_sheet_name : text_fault [] (codes "stop") ≡ Some (WrongWord 0);
 }
 
+-- fit and unfit names
 abbrev pub NameExamples : Type 0
 NameExamples = record {
   two : fit (codes "stop,full") ≡ true;
@@ -67,6 +70,7 @@ NameExamples = record {
   space : fit (codes "stop, full") ≡ false;
 }
 
+-- numbers in files
 abbrev pub NumberExamples : Type 0
 NumberExamples = record {
   nought : number (codes "0") ≡ Some 0;
@@ -81,12 +85,15 @@ NumberExamples = record {
 abbrev pub sample : Text
 sample = codes "signals,stop,full\nrule,G ! & stop full\nrule,G -> stop X ! full\nstate,0,1,0\nstate,1,0,3\nstep,0,1\nstep,1,0\n"
 
+-- the rule `G ! & stop full`
 abbrev pub first_rule : Rule
 first_rule = globally (not (both (name 0) (name 1)))
 
+-- the rule `G -> stop X ! full`
 abbrev pub second_rule : Rule
 second_rule = globally (implies (name 0) (rnext (not (name 1))))
 
+-- what the sample file sets, and lines that break their form
 abbrev pub FileExamples : Type 0
 FileExamples = record {
   names : (content sample).names ≡ two_names;
@@ -115,6 +122,7 @@ abbrev pub nexts : ℕ → Rule → Rule
 nexts zero r = r
 nexts (suc n) r = rnext (nexts n r)
 
+-- rules, their kept formulas, and which words are breaches
 abbrev pub RuleExamples : Type 0
 RuleExamples = record {
   means : Means two_names (codes "G -> stop X ! full") second_rule;

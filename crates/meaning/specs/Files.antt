@@ -33,29 +33,33 @@ pub data Entry : Type 0 where
   state : ℕ → ℕ → ℕ → Entry
   step : ℕ → ℕ → Entry
 
--- the number of a field, and what is made of it
+-- what is made of the number of a field, where it has one
 abbrev pub with_number : {X : Type 0} → Option ℕ → (ℕ → Option X) → Option X
 with_number None go = None
 with_number (Some n) go = go n
 
+-- what is made of a value, where there is one
 abbrev pub mapped : {X Y : Type 0} → (X → Y) → Option X → Option Y
 mapped f None = None
 mapped f (Some x) = Some (f x)
 
+-- the first of two values that is there
 abbrev pub or_else : {X : Type 0} → Option X → Option X → Option X
 or_else None y = y
 or_else (Some x) y = Some x
 
--- three and four fields
+-- the entry of three fields
 abbrev pub step_fields : Text → Text → Text → Option Entry
 step_fields k f t = cond (bytes_eq k (codes "step")) (with_number (number f) (λ f'. with_number (number t) (λ t'. Some (step f' t')))) None
 
+-- the entry of four fields
 abbrev pub state_fields : Text → Text → Text → Text → Option Entry
 state_fields k n s a =
     cond (bytes_eq k (codes "state"))
     (with_number (number n) (λ n'. with_number (number s) (λ s'. with_number (number a) (λ a'. Some (state n' s' a')))))
     None
 
+-- the entry of the fields of a line, by how many they are
 abbrev pub of_fields : List Text → Option Entry
 of_fields [] = None
 of_fields (k ∷ []) = None
@@ -64,7 +68,7 @@ of_fields (k ∷ (a ∷ (b ∷ []))) = step_fields k a b
 of_fields (k ∷ (a ∷ (b ∷ (c ∷ [])))) = state_fields k a b c
 of_fields (k ∷ (a ∷ (b ∷ (c ∷ (d ∷ ds))))) = None
 
--- NAMES and TEXT run to the end of the line; the other fields are parted by commas
+-- the entry of a line's bytes: NAMES and TEXT run to the end of the line, the other fields are parted by commas
 abbrev pub entry : Text → Option Entry
 entry t = or_else (mapped signals (after (codes "signals,") t)) (or_else (mapped rule (after (codes "rule,") t)) (of_fields (parted 44 t)))
 
@@ -76,6 +80,7 @@ pub record Content : Type 0 where
   pub states : List State
   pub steps : List Step
 
+-- nothing has been set
 abbrev pub nothing : Content
 nothing = record { opened = false; names = []; rules = []; states = []; steps = [] }
 
@@ -93,6 +98,7 @@ in_place c (rule t) = c.opened && (is_empty c.states && is_empty c.steps)
 in_place c (state n s a) = c.opened && (is_empty c.steps && (n == length c.states && (nat_le s 1 && nat_le a 255)))
 in_place c (step f t) = c.opened && (nat_le (last_from c.steps) f && (nat_lt f (length c.states) && nat_lt t (length c.states)))
 
+-- an entry, where it is in its place
 abbrev pub placed : Content → Option Entry → Option Entry
 placed c None = None
 placed c (Some e) = cond (in_place c e) (Some e) None
@@ -109,31 +115,51 @@ added c (rule t) = record { opened = c.opened; names = c.names; rules = c.rules 
 added c (state n s a) = record { opened = c.opened; names = c.names; rules = c.rules; states = c.states ++ (record { start = (s == 1); letter = a } ∷ []); steps = c.steps }
 added c (step f t) = record { opened = c.opened; names = c.names; rules = c.rules; states = c.states; steps = c.steps ++ (record { from = f; to = t } ∷ []) }
 
--- all that good lines set
+-- what an entry adds, where there is one
 abbrev pub added_if : Content → Option Entry → Content
 added_if c None = c
 added_if c (Some e) = added c e
 
+-- all that good lines set, behind those that set c
 abbrev pub content_from : Content → List Line → Content
 content_from c [] = c
 content_from c (l ∷ ls) = content_from (added_if c (formed c l)) ls
 
+-- what the lines of a file set
 abbrev pub content : Text → Content
 content file = content_from nothing (lines file)
 
+-- the lines of the table that a file sets
 abbrev pub lines_in : Content → Lines
 lines_in c = record { states = c.states; steps = c.steps }
 
--- the areas of a table, by their lengths. Its rooms: at most 4,096 states and 16,384 steps
+-- the areas of a table, by their lengths
 pub record Rooms : Type 0 where
   pub states : ℕ
   pub steps : ℕ
 
+-- the room for states: the area's length, at most 4,096
 abbrev pub state_room : Rooms → ℕ
 state_room r = min 4096 r.states
 
+-- the room for steps: the area's length, at most 16,384
 abbrev pub step_room : Rooms → ℕ
 step_room r = min 16384 r.steps
+
+-- 18: a line breaks its form: its first word, number of fields, order, or a number in it; or it is cut off
+abbrev pub LineBreaksForm : Content → Line → Type 0
+LineBreaksForm c l = formed c l ≡ None
+
+-- a state or a step finds room behind those of c
+abbrev pub has_room : Rooms → Content → Entry → Bool
+has_room r c (signals t) = true
+has_room r c (rule t) = true
+has_room r c (state n s a) = nat_lt (length c.states) (state_room r)
+has_room r c (step f t) = nat_lt (length c.steps) (step_room r)
+
+-- 19: a state or a step is more than the table's areas or limits hold
+abbrev pub FindsNoRoom : Rooms → Content → Entry → Type 0
+FindsNoRoom r c e = has_room r c e ≡ false
 
 -- what is said of a rule's text; nothing if it is taken
 abbrev pub said_of : Result ℕ SheetFault → Option LineFault
@@ -144,10 +170,10 @@ said_of (Err e) = Some (Sheet e)
 abbrev pub SaidOfEntry : Rooms → Content → Entry → Option LineFault → Type 0
 SaidOfEntry r c (signals t) v = v ≡ cond (fit t) None (Some (Names Unfit))
 SaidOfEntry r c (rule t) v = ∥ ((a : Result ℕ SheetFault) × RightEntering c.names c.rules t a × (v ≡ said_of a)) ∥₁
-SaidOfEntry r c (state n s a) v = v ≡ cond (nat_lt (length c.states) (state_room r)) None (Some (Table NoRoom))
-SaidOfEntry r c (step f t) v = v ≡ cond (nat_lt (length c.steps) (step_room r)) None (Some (Table NoRoom))
+SaidOfEntry r c (state n s a) v = v ≡ cond (has_room r c (state n s a)) None (Some (Table NoRoom))
+SaidOfEntry r c (step f t) v = v ≡ cond (has_room r c (step f t)) None (Some (Table NoRoom))
 
--- a line without its form is refused by 18 before all else
+-- what is said of a line by its entry: without one it breaks its form, and is refused by 18 before all else
 abbrev pub SaidOfLine : Rooms → Content → Option Entry → Option LineFault → Type 0
 SaidOfLine r c None v = v ≡ Some (Table Form)
 SaidOfLine r c (Some e) v = SaidOfEntry r c e v

@@ -22,6 +22,7 @@ use Rattle.meaning.specs.Examples.{two_names, times, fault}
 
 -- ---- names: 1 to 8, of 1 to 8 letters
 
+-- 8 names of 8 letters are fit, and 9 are not
 abbrev pub NameLimits : Type 0
 NameLimits = record {
   eight_names : fit (codes "a,b,c,d,e,f,g,h") ≡ true;
@@ -41,13 +42,15 @@ nexts_before (suc n) i = rnext (nexts_before n i)
 abbrev pub eight_names : List Text
 eight_names = codes "a" ∷ codes "b" ∷ codes "c" ∷ codes "d" ∷ codes "e" ∷ codes "f" ∷ codes "g" ∷ codes "h" ∷ []
 
--- rules of 32 subformulas each, none of them shared: 31 times `X` before each of the first seven names, and of all eight
+-- rules of 32 subformulas each, none of them shared: 31 times `X` before each of the first seven names
 abbrev pub seven_rules : List Rule
 seven_rules = nexts_before 31 0 ∷ nexts_before 31 1 ∷ nexts_before 31 2 ∷ nexts_before 31 3 ∷ nexts_before 31 4 ∷ nexts_before 31 5 ∷ nexts_before 31 6 ∷ []
 
+-- such a rule for each of the eight names
 abbrev pub eight_rules : List Rule
 eight_rules = nexts_before 31 7 ∷ seven_rules
 
+-- the last text and rule within each limit, and the first beyond
 abbrev pub RuleLimits : Type 0
 RuleLimits = record {
   deep : fault (times 32 (codes "! ") ++ codes "stop") ≡ None;
@@ -62,6 +65,7 @@ RuleLimits = record {
 
 -- ---- areas: 512 labels, 512 standings, 4,096 states and 16,384 steps of a table
 
+-- the rooms at, below and above each limit, and the lines there
 abbrev pub AreaLimits : Type 0
 AreaLimits = record {
   labels_511 : label_room (record { labels = 511; records = 0; nexts = 0 }) ≡ 511;
@@ -95,6 +99,7 @@ AreaLimits = record {
 abbrev pub idle : ℕ → ℕ → Meaning
 idle count width = record { count = count; width = width; starts = []; letter = λ _. 0; steps = λ _. [] }
 
+-- machines at and beyond each limit
 abbrev pub MachineLimits : Type 0
 MachineLimits = record {
   layer_fits : fitting (idle 32768 524288) 7 ≡ Ok tt;

@@ -13,52 +13,67 @@ use Rattle.meaning.specs.Calls.{opening, entering, loading, filling, beginning, 
 use Rattle.meaning.specs.Histories.{names, rules, table_lines, filled_rule, watch}
 use Rattle.meaning.specs.Examples.{two_names, sample}
 
+-- areas of a table, the second larger than the limit
 abbrev pub rooms : Rooms
 rooms = record { states = 256; steps = 5000000 }
 
+-- areas of a chart: 7 labels, and next numbers for 3 standings
 abbrev pub areas : Areas
 areas = record { labels = 7; records = 600; nexts = 1000 }
 
+-- an opening with two names
 abbrev pub opened : Event
 opened = record { call = opening 0 (codes "stop,full"); answer = Ok tt }
 
+-- a refused opening
 abbrev pub not_opened : Event
 not_opened = record { call = opening 0 (codes "stop,stop"); answer = Err Unfit }
 
+-- an entering
 abbrev pub entered : Event
 entered = record { call = entering 0 (codes "! stop"); answer = Ok 0 }
 
+-- a loading of the sample file
 abbrev pub loaded : Event
 loaded = record { call = loading 0 1 rooms sample; answer = Ok tt }
 
+-- a refused loading
 abbrev pub not_loaded : Event
 not_loaded = record { call = loading 0 1 rooms []; answer = Err (record { line = 1; fault = Table Form }) }
 
+-- a filling
 abbrev pub filled : Event
 filled = record { call = filling 2 0 0 areas; answer = Ok (2, 3) }
 
+-- a filling refused by 8
 abbrev pub no_rule : Event
 no_rule = record { call = filling 2 0 1 areas; answer = Err NoRule }
 
+-- a filling refused by 9
 abbrev pub no_label_room : Event
 no_label_room = record { call = filling 2 0 0 areas; answer = Err LabelsExceed }
 
+-- a filling refused by 10
 abbrev pub no_standing_room : Event
 no_standing_room = record { call = filling 2 0 0 areas; answer = Err StandingsExceed }
 
+-- a beginning
 abbrev pub begun : Event
 begun = record { call = beginning 2; answer = Ok tt }
 
+-- a scan that goes on
 abbrev pub scanned : ℕ → Event
 scanned a = record { call = scanning 2 a; answer = Ok GoingOn }
 
--- opened, entered, filled; and watched with two letters
+-- opened, entered, filled
 abbrev pub ready : History
 ready = filled ∷ (entered ∷ (opened ∷ []))
 
+-- ... and watched with two letters
 abbrev pub watched : History
 watched = scanned 4 ∷ (scanned 2 ∷ (begun ∷ ready))
 
+-- what follows from these calls
 abbrev pub HistoryExamples : Type 0
 HistoryExamples = record {
   new_sheet : names [] 0 ≡ [];
@@ -87,16 +102,19 @@ HistoryExamples = record {
   no_standing_room_ends : watch (no_standing_room ∷ watched) 2 ≡ None;
 }
 
--- behind two states, and behind a step from state 1
+-- what is set behind two states
 abbrev pub two_states : Content
 two_states = content (codes "signals,a\nstate,0,1,0\nstate,1,0,255\n")
 
+-- ... and behind a step from state 1
 abbrev pub one_step : Content
 one_step = content (codes "signals,a\nstate,0,1,0\nstate,1,0,255\nstep,1,0\n")
 
+-- the entry of a line there; none where it breaks its form
 abbrev pub said : Content → Text → Option Entry
 said c t = formed c (ended t)
 
+-- lines out of place, and rooms
 abbrev pub PlaceExamples : Type 0
 PlaceExamples = record {
   second_signals : said two_states (codes "signals,b") ≡ None;

@@ -1,11 +1,11 @@
 -- The fault of a rule text in the subject's words: what its words begin, and where that ends. Assumes nothing.
-use Rattle.std.specs.Prelude.{◌≡◌, ℕ, ◌+◌, ◌<◌, ◌≤◌, ◌⊎◌, ◌↔◌, List, [], ◌∷◌, ◌++◌, length, Some}
+use Rattle.std.specs.Prelude.{◌≡◌, ℕ, ◌+◌, ◌<◌, ◌≤◌, ◌⊎◌, ◌↔◌, List, [], ◌∷◌, ◌++◌, length}
 use Rattle.meaning.specs.declared.refusals.RuleFault.{RuleFault}
 use Rattle.meaning.specs.declared.refusals.RuleFault.TheVariants.{WrongWord, WordWanted, BytesFollow, TooDeep}
 use Rattle.logic.specs.Rule.{Rule}
 use Rattle.meaning.specs.Bytes.{Text, parted}
 use Rattle.meaning.specs.Written.{written, Named, depth}
-use Rattle.meaning.specs.Faults.{text_fault}
+use Rattle.meaning.specs.Faults.{HasFault}
 use Rattle.meaning.specs.Reading.{GoodNames}
 
 -- the rule r is written by the words us and then the words vs: the words of a text are its parts between spaces
@@ -37,23 +37,34 @@ WordAt t us w p = ((ws : List Text) × (parted 32 t ≡ us ++ (w ∷ ws))) × (p
 abbrev pub WordsAre : Text → List Text → Type 0
 WordsAre t us = (parted 32 t ≡ us) ⊎ (parted 32 t ≡ us ++ ([] ∷ []))
 
--- the fault that the words of the text t tell, under the names ns:
--- 2 at p: a byte stands at p, what stands before p wants a word, and with the word at p it begins the writing of no rule at all;
--- 5 at p: what stands before p wants a word, and with the word at p it begins the writing of some rule, but of none of nesting at most 32;
--- 3 at p: p is the text's length, and the whole text wants a word;
+-- 2 at p: a byte stands at p, what stands before p wants a word, and with the word at p it begins the writing of no rule at all: that word is no operator, constant or name
+abbrev pub WrongWordAt : List Text → Text → ℕ → Type 0
+WrongWordAt ns t p = (p < length t) × ∥ ((us : List Text) × (w : Text) × WordAt t us w p × WantAWord ns us × ¬ Begin ns (us ++ (w ∷ []))) ∥₁
+
+-- 3 at p: p is the text's length, and the whole text wants a word
+abbrev pub WordWantedAt : List Text → Text → ℕ → Type 0
+WordWantedAt ns t p = (p ≡ length t) × ∥ ((us : List Text) × WordsAre t us × WantAWord ns us) ∥₁
+
 -- 4 at p: what stands before p is the whole writing of a rule of nesting at most 32, and a space stands at p
-abbrev pub FaultInWords : List Text → Text → RuleFault → Type 0
-FaultInWords ns t (WrongWord p) =
-    (p < length t) × ∥ ((us : List Text) × (w : Text) × WordAt t us w p × WantAWord ns us × ¬ Begin ns (us ++ (w ∷ []))) ∥₁
-FaultInWords ns t (TooDeep p) =
-    ∥ ((us : List Text) × (w : Text) × WordAt t us w p × WantAWord ns us × Begin ns (us ++ (w ∷ [])) × ¬ BeginShallow ns (us ++ (w ∷ []))) ∥₁
-FaultInWords ns t (WordWanted p) = (p ≡ length t) × ∥ ((us : List Text) × WordsAre t us × WantAWord ns us) ∥₁
-FaultInWords ns t (BytesFollow p) =
+abbrev pub BytesFollowAt : List Text → Text → ℕ → Type 0
+BytesFollowAt ns t p =
     ∥ ((r : Rule) × (rest : Text) × Named (length ns) r × (depth r ≤ 32) × (t ≡ written ns r ++ (32 ∷ rest)) × (p ≡ length (written ns r))) ∥₁
+
+-- 5 at p: what stands before p wants a word, and with the word at p it begins the writing of some rule, but of none of nesting at most 32: that word is an operator below 32 others
+abbrev pub TooDeepAt : List Text → Text → ℕ → Type 0
+TooDeepAt ns t p =
+    ∥ ((us : List Text) × (w : Text) × WordAt t us w p × WantAWord ns us × Begin ns (us ++ (w ∷ [])) × ¬ BeginShallow ns (us ++ (w ∷ []))) ∥₁
+
+-- the fault that the words of the text t tell, under the names ns
+abbrev pub FaultInWords : List Text → Text → RuleFault → Type 0
+FaultInWords ns t (WrongWord p) = WrongWordAt ns t p
+FaultInWords ns t (TooDeep p) = TooDeepAt ns t p
+FaultInWords ns t (WordWanted p) = WordWantedAt ns t p
+FaultInWords ns t (BytesFollow p) = BytesFollowAt ns t p
 
 -- the fault of a text is the one that its words tell
 abbrev pub FaultsAreToldByWords : Type 0
-FaultsAreToldByWords = (ns : List Text) (t : Text) → GoodNames ns → (e : RuleFault) → (text_fault ns t ≡ Some e) ↔ FaultInWords ns t e
+FaultsAreToldByWords = (ns : List Text) (t : Text) → GoodNames ns → (e : RuleFault) → HasFault ns t e ↔ FaultInWords ns t e
 
 -- the words of a text tell at most one fault
 abbrev pub WordsTellOneFault : Type 0

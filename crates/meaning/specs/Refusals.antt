@@ -67,6 +67,7 @@ abbrev pub number_of_table : TableFault → ℕ
 number_of_table Form = 18
 number_of_table NoRoom = 19
 
+-- loading: the number of the layer that refused the line
 abbrev pub number_of_line_fault : LineFault → ℕ
 number_of_line_fault (Names e) = number_of_names e
 number_of_line_fault (Sheet e) = number_of_sheet e
@@ -76,29 +77,32 @@ number_of_line_fault (Table e) = number_of_table e
 abbrev pub number_of_fitting : FittingFault → ℕ
 number_of_fitting TooLarge = 20
 
--- the place: a byte of the rule text, and 0 elsewhere
+-- the place of a text's fault: a byte of the rule text
 abbrev pub place_of_rule : RuleFault → ℕ
 place_of_rule (WrongWord p) = p
 place_of_rule (WordWanted p) = p
 place_of_rule (BytesFollow p) = p
 place_of_rule (TooDeep p) = p
 
+-- entering: the place of the text's fault, and 0 elsewhere
 abbrev pub place_of_sheet : SheetFault → ℕ
 place_of_sheet (Rule e) = place_of_rule e
 place_of_sheet OverKept = 0
 place_of_sheet SheetFull = 0
 
+-- loading: the place of the text's fault, and 0 elsewhere
 abbrev pub place_of_line_fault : LineFault → ℕ
 place_of_line_fault (Names e) = 0
 place_of_line_fault (Sheet e) = place_of_sheet e
 place_of_line_fault (Table e) = 0
 
--- the layer that refused a line: names (1), rule (2 to 5), sheet (6, 7), table (18, 19)
+-- the layer that refused a text: rule (2 to 5) or sheet (6, 7)
 abbrev pub layer_of_sheet : SheetFault → List ℕ
 layer_of_sheet (Rule e) = codes "rule"
 layer_of_sheet OverKept = codes "sheet"
 layer_of_sheet SheetFull = codes "sheet"
 
+-- the layer that refused a line: names (1), rule (2 to 5), sheet (6, 7), table (18, 19)
 abbrev pub layer_of_line_fault : LineFault → List ℕ
 layer_of_line_fault (Names e) = codes "names"
 layer_of_line_fault (Sheet e) = layer_of_sheet e

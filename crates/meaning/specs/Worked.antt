@@ -20,13 +20,15 @@ Counts t r labels standings = Means two_names t r × Counted (negated r) (labels
 abbrev pub Breaks : Rule → List ℕ → Type 0
 Breaks r w = Breach (negated r) w
 
--- no second letter; neither `stop` now nor `full` next; `stop` until `full`
+-- no second letter
 abbrev pub no_second : Rule
 no_second = not (rnext rtrue)
 
+-- neither `stop` now nor `full` next
 abbrev pub neither : Rule
 neither = both (not (name 0)) (not (rnext (name 1)))
 
+-- `stop` until `full`
 abbrev pub stop_until_full : Rule
 stop_until_full = runtil (name 0) (name 1)
 
