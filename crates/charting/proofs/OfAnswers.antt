@@ -9,13 +9,13 @@ use Rattle.logic.specs.Labels.{ListsKept, label}
 use Rattle.logic.specs.Masks.{mask}
 use Rattle.logic.specs.Standings as lists
 use Rattle.logic.specs.Counting.{More, Number, Exceeds}
-use Rattle.logic.proofs.Tables.{not_both}
+use Rattle.logic.proofs.Tables.{not_both, more_not, more_of, part_of}
 use Rattle.meaning.specs.Charts.{SameLabel, SameStanding, Areas, label_room, standing_room}
 use Rattle.meaning.specs.Whole.{LabelOf}
 use Rattle.meaning.specs.Right.{Counted, Fills}
 use Rattle.meaning.specs.declared.refusals.FillingFault.{FillingFault}
 use Rattle.meaning.specs.declared.refusals.FillingFault.TheVariants.{NoRule, LabelsExceed, StandingsExceed}
-use Rattle.meaning.proofs.OfBridges.{label_join, standing_join, standing_turn}
+use Rattle.meaning.proofs.OfBridges.{label_turn, label_join, standing_self, standing_join, standing_turn}
 use Rattle.meaning.proofs.OfWhole.{label_from, whole_charts_are_counted}
 use Rattle.charting.specs.Filled.{FilledOnce, Refused}
 use Rattle.charting.specs.Whole.{held}
@@ -38,12 +38,15 @@ module _ (f : Formula) (ks : List Formula) (keeps : ListsKept f ks) where
 
   pub refused_right : (areas : Areas) (e : FillingFault) → Refused f ks (label_room areas) (standing_room areas) e → Fills f areas (Err e)
   refused_right areas NoRule x = x
-  refused_right areas LabelsExceed x = ∣ more_alike Letters (lists.SameLabel ks) (SameLabel f) (label_room areas) (same_labels f ks keeps) x ∣₁
+  refused_right areas LabelsExceed x =
+      ∣ part_of Letters (SameLabel f) (label_turn f) (label_join f) (λ u g k. (λ b. b, λ b. b)) (label_room areas)
+      (more_alike Letters (lists.SameLabel ks) (SameLabel f) (label_room areas) (same_labels f ks keeps) x) ∣₁
   refused_right areas StandingsExceed x = (
     λ m. ∥∥₁_elim m ⊥_prop (λ y.
-        not_both Letters (lists.SameLabel ks) (λ u v e. sym e) (λ u v w p q. p ∙ q) (label_room areas)
-        (more_alike Letters (SameLabel f) (lists.SameLabel ks) (label_room areas) labels_same y) x.labels x.labels_fit x.label_count),
-    ∣ more_alike Letters (lists.SameStanding ks (Breach f)) (SameStanding f) (standing_room areas) (same_standings f ks keeps) x.more ∣₁,
+        more_not Letters (lists.SameLabel ks) (λ u v e. sym e) (λ u v w p q. p ∙ q) (label_room areas)
+        (more_alike Letters (SameLabel f) (lists.SameLabel ks) (label_room areas) labels_same (more_of Letters (SameLabel f) (label_turn f) (label_join f) (label_room areas) y)) x.labels x.labels_fit x.label_count),
+    ∣ part_of Letters (SameStanding f) (standing_turn f) (standing_join f) (standing_self f) (standing_room areas)
+        (more_alike Letters (lists.SameStanding ks (Breach f)) (SameStanding f) (standing_room areas) (same_standings f ks keeps) x.more) ∣₁,
   )
 
   module _ (few : length ks ≤ 32) (ls : List ℕ) (a : ℕ) (st : List (List ℕ)) (b : ℕ) (nx : List ℕ) (x : FilledOnce f ks ls a st b nx) where

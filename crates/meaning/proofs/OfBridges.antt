@@ -91,6 +91,10 @@ within_join f u v w p q x l b =
 pub standing_join : (f : Formula) (u v w : List ℕ) → SameStanding f u v → SameStanding f v w → SameStanding f u w
 standing_join f u v w p q = (within_join f u v w p.0 q.0, within_join f w v u q.1 p.1)
 
+pub standing_self : (f : Formula) (u : List ℕ) → SameStanding f u u
+standing_self f u =
+    let within : WithinStanding f u u = λ v l b. ∣ (v, l, b, λ g k. (λ x. x, λ x. x)) ∣₁ in (within, within)
+
 pub standing_turn : (f : Formula) (u v : List ℕ) → SameStanding f u v → SameStanding f v u
 standing_turn f u v p = (p.1, p.0)
 

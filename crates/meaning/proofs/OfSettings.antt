@@ -17,7 +17,7 @@ use Rattle.meaning.specs.Calls.{History}
 use Rattle.meaning.specs.Histories.{Ruled, rule_at}
 use Rattle.meaning.specs.Right.{FormulaOf, Counted, HasNoRule, Fills, RightFilling}
 use Rattle.meaning.specs.Claims.{FillsRightly, FillingsCountRightly, SetsRightly, LoadingsSetRightly}
-use Rattle.meaning.proofs.OfBridges.{label_turn, label_join, standing_turn, standing_join}
+use Rattle.meaning.proofs.OfBridges.{label_turn, label_join, standing_self, standing_turn, standing_join}
 use Rattle.meaning.proofs.OfHistories.{at_same}
 use Rattle.meaning.proofs.Determined.{not_good_and_bad}
 
@@ -27,9 +27,7 @@ label_rooms : (f : Formula) (room : ℕ) → RoomIsTold Letters (SameLabel f) ro
 label_rooms f = room_is_told Letters (SameLabel f) (label_turn f) (label_join f) (λ u g k. (λ b. b, λ b. b))
 
 standing_rooms : (f : Formula) (room : ℕ) → RoomIsTold Letters (SameStanding f) room
-standing_rooms f =
-    let self : (u v : List ℕ) → _ = λ u v. λ l b. ∣ (v, l, b, λ g k. (λ x. x, λ x. x)) ∣₁ in
-    room_is_told Letters (SameStanding f) (standing_turn f) (standing_join f) (λ u. (self u, self u))
+standing_rooms f = room_is_told Letters (SameStanding f) (standing_turn f) (standing_join f) (standing_self f)
 
 below_room : {In : List ℕ → Type 0} {Same : List ℕ → List ℕ → Type 0} (room n : ℕ) → RoomIsTold In Same room → Number In Same n → ¬ Exceeds room In Same → n ≤ room
 below_room room n t c x = elim (dec_lt room n) [ yes l ↦ absurd (x ((t.exceeds n c).1 l)) | no o ↦ omega arith ]

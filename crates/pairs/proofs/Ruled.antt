@@ -97,17 +97,19 @@ module _ (m : Meaning) (l : Lawful m) where
     )
     searches room before after (Err PairsExceed) s e h = (
       s,
-      (λ shown. ∥∥₁_elim shown ⊥_prop (λ x. ∥∥₁_elim x.2 ⊥_prop (λ t.
-          h.no_walk (record {
-            walk = x.0;
-            shortest = record { breach = from_breach x.0 x.1.breach; least = λ ys b. x.1.least ys (to_breach ys b) };
-            fit = (t.0, t.1, from_classes (Shorter (length x.0)) (ShorterWalk m (length x.0)) (λ xs h. h) (λ xs w h. (w, h)) t.0 t.2);
-          })))),
-      (λ clear. ∥∥₁_elim clear.1 ⊥_prop (λ t.
-          h.no_clear (record {
-            none = λ ys b. clear.0 ys (to_breach ys b);
-            fit = (t.0, t.1, from_classes AnyWalk (Walk m) (λ xs h. (h, tt)) (λ xs w h. w) t.0 t.2);
-          }))),
+      (
+        λ shown. ∥∥₁_elim shown ⊥_prop (λ x. ∥∥₁_elim x.2 ⊥_prop (λ t.
+            h.no_walk (record {
+              walk = x.0;
+              shortest = record { breach = from_breach x.0 x.1.breach; least = λ ys b. x.1.least ys (to_breach ys b) };
+              fit = (t.0, t.1, from_classes (Shorter (length x.0)) (ShorterWalk m (length x.0)) (λ xs h. h) (λ xs w h. (w, h)) t.0 t.2);
+            }))),
+        λ clear. ∥∥₁_elim clear.1 ⊥_prop (λ t.
+            h.no_clear (record {
+              none = λ ys b. clear.0 ys (to_breach ys b);
+              fit = (t.0, t.1, from_classes AnyWalk (Walk m) (λ xs h. (h, tt)) (λ xs w h. w) t.0 t.2);
+            })),
+      ),
       h.stays,
     )
     searches room before after (Err Blank) s e h = absurd h

@@ -11,7 +11,7 @@ use Rattle.logic.specs.Labels.{Kept, kept, NoTwice}
 use Rattle.logic.specs.Counting.{Classes, Exceeds}
 use Rattle.logic.specs.Rule.{Rule, negated}
 use Rattle.logic.proofs.Kept.{kept_listed, kept_once, at_place, no_twice_apart}
-use Rattle.logic.proofs.Tables.{not_both}
+use Rattle.logic.proofs.Tables.{not_both, part_above}
 use Rattle.meaning.specs.declared.refusals.RuleFault.{RuleFault}
 use Rattle.meaning.specs.declared.refusals.RuleFault.TheVariants.{WrongWord, WordWanted, BytesFollow, TooDeep}
 use Rattle.meaning.specs.declared.refusals.SheetFault.{SheetFault}
@@ -48,9 +48,6 @@ place_in (y ∷ ys) x m = go (same x y) (place_in ys x)
         (suc k.0, omega (arith, k.1), k.2)
 
 module _ (In : Formula → Type 0) (xs : List Formula) (once : NoTwice xs) (members : (x : Formula) → Mem x xs ↔ In x) (n : ℕ) where
-  exceeded : n < length xs → Exceeds n In Equal
-  exceeded h = ∣ record { pick = λ i. get_or xs i tru; inside = λ i l. (members (get_or xs i tru)).0 ∣ at_place xs i tru (omega arith) ∣₁; differ = λ i j l m e. no_twice_apart xs tru once i j l (omega arith) e } ∣₁
-
   classes : Classes In Equal (length xs)
   classes = record {
     one = λ i. get_or xs i tru;
@@ -58,6 +55,9 @@ module _ (In : Formula → Type 0) (xs : List Formula) (once : NoTwice xs) (memb
     covers = λ x h. let k = place_in xs x ((members x).1 h) in (k.0, k.1, sym k.2);
     differ = λ i j l m e. no_twice_apart xs tru once i j l m e;
   }
+
+  exceeded : n < length xs → Exceeds n In Equal
+  exceeded h = ∣ part_above In Equal (λ u v e. sym e) (λ u v w p q. p ∙ q) (λ u. refl) n (length xs) h classes ∣₁
 
   exceeding : Exceeds n In Equal → n < length xs
   exceeding x =
