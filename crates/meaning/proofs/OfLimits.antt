@@ -3,7 +3,7 @@ use Rattle.std.proofs.Common.{◌≡◌, ℕ, zero, suc, ◌<◌, ◌≤◌, min
 use Rattle.std.proofs.lemmas.Bool.{cond-true, cond-false, lt-ltb, le-ltb}
 use Rattle.meaning.specs.declared.refusals.LineFault.TheVariants.{Table}
 use Rattle.meaning.specs.declared.refusals.TableFault.TheVariants.{Form, NoRoom}
-use Rattle.logic.specs.Formula.{same}
+use Rattle.logic.specs.Formula.{on, same}
 use Rattle.logic.specs.Rule.{Rule, rtrue, negated}
 use Rattle.logic.specs.Labels.{kept}
 use Rattle.meaning.specs.Bytes.{Text}
@@ -11,12 +11,16 @@ use Rattle.meaning.specs.Written.{written, Means}
 use Rattle.meaning.specs.Sheets.{SheetIsFull, IsOverKept}
 use Rattle.meaning.specs.Reading.{GoodNames}
 use Rattle.meaning.specs.Full.{different_parts, CanBeMeant}
-use Rattle.meaning.specs.Limits.{nexts_before, eight_names, seven_rules, eight_rules, NameLimits, RuleLimits, AreaLimits, MachineLimits, FileLimits, Limits}
+use Rattle.meaning.specs.Limits.{nexts_before, eight_names, seven_rules, eight_rules, NameLimits, LetterLimits, RuleLimits, AreaLimits, MachineLimits, FileLimits, ProgramLimits, Limits}
 use Rattle.meaning.specs.Examples.{two_names}
 use Rattle.meaning.proofs.OfFull.{full_sheets_by_lists, over_kept_by_lists}
 
 name_limits : NameLimits
 name_limits = record { eight_names = refl; nine_names = refl; eight_letters = refl; nine_letters = refl }
+
+letter_limits : LetterLimits
+unfolding on
+letter_limits = record { letter_255 = omega arith; letter_256 = λ l. omega arith; eighth_signal = refl; below_it = refl }
 
 -- ---- rules
 
@@ -87,6 +91,8 @@ rule_limits : RuleLimits
 rule_limits = record {
   deep = refl;
   too_deep = refl;
+  meant_32 = (omega arith, omega arith, tt);
+  meant_33 = λ h. omega (arith, h.1);
   sixteenth = (
     refl,
     not_full [] no_names rtrue (replicate 15 rtrue) sixteen (omega arith) (omega (arith, sixteen_few)),
@@ -158,6 +164,7 @@ machine_limits = record {
   layer_width = refl;
   layer_none = refl;
   table_width = λ t. refl;
+  round_width = λ w. refl;
   widest = record {
     starts_below = tt;
     starts_once = tt;
@@ -181,5 +188,15 @@ file_limits = record {
   bytes_8193 = λ rest e. inl (omega arith, refl);
 }
 
+program_limits : ProgramLimits
+program_limits = record {
+  state_256th = λ c n s a e. sym (room_below (length c.states) 256 (omega arith));
+  state_257th = λ c n s a e. sym (room_none (length c.states) 256 (omega arith));
+  step_1024th = λ c f t e. sym (room_below (length c.steps) 1024 (omega arith));
+  step_1025th = λ c f t e. sym (room_none (length c.steps) 1024 (omega arith));
+  labels_512 = refl;
+  standings_32 = refl;
+}
+
 pub limits : Limits
-limits = record { of_names = name_limits; of_rules = rule_limits; of_areas = area_limits; of_machines = machine_limits; of_files = file_limits }
+limits = record { of_names = name_limits; of_letters = letter_limits; of_rules = rule_limits; of_areas = area_limits; of_machines = machine_limits; of_files = file_limits; of_program = program_limits }

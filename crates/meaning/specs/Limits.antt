@@ -6,18 +6,19 @@ use Rattle.meaning.specs.declared.refusals.FittingFault.TheVariants.{TooLarge}
 use Rattle.meaning.specs.declared.refusals.LineFault.TheVariants.{Table}
 use Rattle.meaning.specs.declared.refusals.TableFault.TheVariants.{Form, NoRoom}
 use Rattle.meaning.specs.declared.refusals.SearchingFault.TheVariants.{ManyStates, ShortWalkArea}
-use Rattle.logic.specs.Formula.{Formula}
+use Rattle.logic.specs.Formula.{Formula, Letter, on}
 use Rattle.logic.specs.Rule.{Rule, name, rnext}
 use Rattle.meaning.specs.Bytes.{Text}
 use Rattle.meaning.specs.Names.{fit}
 use Rattle.meaning.specs.Written.{written}
+use Rattle.meaning.specs.Full.{CanBeMeant}
 use Rattle.meaning.specs.Entering.{RightEntering}
 use Rattle.meaning.specs.Charts.{label_room, standing_room}
 use Rattle.meaning.specs.Machines.{Meaning, Lawful}
-use Rattle.meaning.specs.Kinds.{Lines, table_meaning, stuck_meaning, fitting}
+use Rattle.meaning.specs.Kinds.{Lines, table_meaning, round_meaning, stuck_meaning, fitting}
 use Rattle.meaning.specs.Files.{Rooms, Content, state, step, state_room, step_room, SaidOfEntry}
 use Rattle.meaning.specs.Right.{Searches}
-use Rattle.meaning.specs.Printed.{fault_line, Prints}
+use Rattle.meaning.specs.Printed.{table_rooms, chart_areas, fault_line, Prints}
 use Rattle.meaning.specs.Examples.{two_names, times, fault}
 
 -- ---- names: 1 to 8, of 1 to 8 letters
@@ -29,6 +30,17 @@ NameLimits = record {
   nine_names : fit (codes "a,b,c,d,e,f,g,h,i") ≡ false;
   eight_letters : fit (codes "abcdefgh") ≡ true;
   nine_letters : fit (codes "abcdefghi") ≡ false;
+}
+
+-- ---- letters: a byte, one bit for each of 8 signals
+
+-- the last letter, the first number that is none, and the bit of the last name
+abbrev pub LetterLimits : Type 0
+LetterLimits = record {
+  letter_255 : Letter 255;
+  letter_256 : ¬ Letter 256;
+  eighth_signal : on 7 128 ≡ true;
+  below_it : on 7 127 ≡ false;
 }
 
 -- ---- rules: 32 operators one below another, 16 rules, 32 kept formulas, 256 different subformulas
@@ -55,6 +67,8 @@ abbrev pub RuleLimits : Type 0
 RuleLimits = record {
   deep : fault (times 32 (codes "! ") ++ codes "stop") ≡ None;
   too_deep : fault (times 33 (codes "! ") ++ codes "stop") ≡ Some (TooDeep 64);
+  meant_32 : CanBeMeant two_names (nexts_before 32 0 ∷ []);
+  meant_33 : ¬ CanBeMeant two_names (nexts_before 33 0 ∷ []);
   sixteenth : RightEntering [] (replicate 15 (codes "true")) (codes "true") (Ok 15);
   seventeenth : RightEntering [] (replicate 16 (codes "true")) (codes "true") (Err SheetFull);
   kept_32 : RightEntering two_names [] (written two_names (nexts_before 31 0)) (Ok 0);
@@ -110,6 +124,7 @@ MachineLimits = record {
   layer_width : (stuck_meaning (idle 32768 524288) 7).width ≡ 1048576;
   layer_none : (stuck_meaning (idle 32769 524288) 7).count ≡ 0;
   table_width : (t : Lines) → (table_meaning t).width ≡ 32768;
+  round_width : (w : List ℕ) → (round_meaning w).width ≡ 1;
   widest : Lawful (idle 0 1048576);
   too_wide : ¬ Lawful (idle 0 1048577);
   -- a search over 65,536 states is not refused for them, one over 65,537 is
@@ -129,10 +144,23 @@ FileLimits = record {
   bytes_8193 : (rest : Text) → length rest ≡ 8191 → Prints (10 ∷ (10 ∷ rest)) (fault_line (record { line = 0; fault = Table NoRoom }));
 }
 
+-- its rooms: 256 states and 1,024 steps, 512 labels and 32 standings
+abbrev pub ProgramLimits : Type 0
+ProgramLimits = record {
+  state_256th : (c : Content) (n s a : ℕ) → length c.states ≡ 255 → SaidOfEntry table_rooms c (state n s a) None;
+  state_257th : (c : Content) (n s a : ℕ) → length c.states ≡ 256 → SaidOfEntry table_rooms c (state n s a) (Some (Table NoRoom));
+  step_1024th : (c : Content) (f t : ℕ) → length c.steps ≡ 1023 → SaidOfEntry table_rooms c (step f t) None;
+  step_1025th : (c : Content) (f t : ℕ) → length c.steps ≡ 1024 → SaidOfEntry table_rooms c (step f t) (Some (Table NoRoom));
+  labels_512 : label_room chart_areas ≡ 512;
+  standings_32 : standing_room chart_areas ≡ 32;
+}
+
 -- all limits
 pub record Limits : Type 0 where
   pub of_names : NameLimits
+  pub of_letters : LetterLimits
   pub of_rules : RuleLimits
   pub of_areas : AreaLimits
   pub of_machines : MachineLimits
   pub of_files : FileLimits
+  pub of_program : ProgramLimits

@@ -8,7 +8,7 @@ use Rattle.meaning.specs.declared.answers.Scanned.TheVariants.{GoingOn}
 use Rattle.meaning.specs.Bytes.{Text}
 use Rattle.meaning.specs.Charts.{Areas, label_room, standing_room}
 use Rattle.meaning.specs.Kinds.{no_lines}
-use Rattle.meaning.specs.Files.{Rooms, state_room, step_room, Content, Entry, ended, formed, content, lines_in}
+use Rattle.meaning.specs.Files.{Rooms, state_room, step_room, Content, Entry, state, step, ended, formed, content, lines_in}
 use Rattle.meaning.specs.Calls.{opening, entering, loading, filling, beginning, scanning, Event, History}
 use Rattle.meaning.specs.Histories.{names, rules, table_lines, filled_rule, watch}
 use Rattle.meaning.specs.Examples.{two_names, sample}
@@ -122,7 +122,13 @@ PlaceExamples = record {
   late_state : said one_step (codes "state,2,0,0") ≡ None;
   gap : said two_states (codes "state,3,0,0") ≡ None;
   start_two : said two_states (codes "state,2,2,0") ≡ None;
+  start_one : said two_states (codes "state,2,1,0") ≡ Some (state 2 1 0);
+  letter_255 : said two_states (codes "state,2,0,255") ≡ Some (state 2 0 255);
   letter_256 : said two_states (codes "state,2,0,256") ≡ None;
+  last_source : said two_states (codes "step,1,0") ≡ Some (step 1 0);
+  last_end : said two_states (codes "step,0,1") ≡ Some (step 0 1);
+  to_itself : said one_step (codes "step,1,1") ≡ Some (step 1 1);
+  twice : said one_step (codes "step,1,0") ≡ Some (step 1 0);
   falls : said one_step (codes "step,0,1") ≡ None;
   source_not_declared : said two_states (codes "step,2,0") ≡ None;
   end_not_declared : said two_states (codes "step,0,2") ≡ None;
