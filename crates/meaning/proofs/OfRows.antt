@@ -1,5 +1,5 @@
 -- Each refusal comes exactly where its row says. Assumes nothing.
-use Rattle.std.proofs.Common.{◌≡◌, ℕ, ◌<◌, ◌≤◌, Bool, true, false, cond, ◌&&◌, ◌↔◌, leb, List, length, Some, None, Ok, Err, Option, Result, sym, refl, ap, ◌∙◌, subst, inl, inr, arith}
+use Rattle.std.proofs.Common.{◌≡◌, ℕ, ◌<◌, ◌≤◌, Bool, true, false, cond, ◌↔◌, leb, List, length, Some, None, Ok, Err, Option, Result, sym, refl, ap, ◌∙◌, subst, inl, inr, arith}
 use mathlib.Core.Logic.{∥∥₁_elim, ∥∥₁_map}
 use mathlib.Core.HLevel.{⊥_prop}
 use mathlib.Core.Bool.{false≢true, Bool-set}
@@ -24,12 +24,12 @@ use Rattle.logic.specs.Formula.{Formula}
 use Rattle.meaning.specs.Names.{fit}
 use Rattle.meaning.specs.Charts.{Areas}
 use Rattle.meaning.specs.Machines.{Meaning}
-use Rattle.meaning.specs.Kinds.{stuck_fits, fitting, LayerIsTooLarge}
+use Rattle.meaning.specs.Kinds.{stuck_fits, LayerIsTooLarge}
 use Rattle.meaning.specs.Files.{Line, Entry, signals, rule, state, step, Content, Rooms, formed, has_room, FindsNoRoom, said_of, SaidOfLine}
 use Rattle.meaning.specs.Calls.{History}
 use Rattle.meaning.specs.Histories.{names, Ruled, rule_at, filled_rule, watch, meaning_of}
-use Rattle.meaning.specs.Right.{FormulaOf, HasNoRule, LabelsExceedRoom, StandingsExceedRoom, Fills, RightFilling, ChartIsBlank, RightBeginning, HasNoWatch, WatchIsBroken, RightScanning, HasNoStart, HasManyStates, WalkAreaIsShort, Searchable, PairsExceedRoom, RightSearching, AllRight}
-use Rattle.meaning.specs.Rows.{OfRule, OfWatch, EnteringRows, FillingRows, ScanningRows, SearchingRows, LoadingRows, FittingRows, RefusalsHaveTheirRows}
+use Rattle.meaning.specs.Right.{HasNoRule, LabelsExceedRoom, StandingsExceedRoom, RightFilling, ChartIsBlank, RightBeginning, HasNoWatch, WatchIsBroken, RightScanning, HasNoStart, HasManyStates, WalkAreaIsShort, Searchable, PairsExceedRoom, RightSearching, AllRight}
+use Rattle.meaning.specs.Rows.{OfRule, OfWatch, EnteringRows, LoadingRows, FittingRows, RefusalsHaveTheirRows}
 use Rattle.meaning.proofs.OfNames.{names_good}
 use Rattle.meaning.proofs.OfPlaces.{faults_are_told_by_words}
 

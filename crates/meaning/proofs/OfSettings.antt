@@ -1,22 +1,18 @@
 -- Fillings count, and loadings set. Assumes nothing.
-use Rattle.std.proofs.Common.{◌≡◌, ℕ, ◌<◌, ◌≤◌, ◌↔◌, List, Some, None, Ok, Err, Option, Result, sym, refl, ap, subst, arith}
+use Rattle.std.proofs.Common.{◌≡◌, ℕ, ◌≤◌, ◌↔◌, List, Some, None, Ok, Err, Option, Result, refl, ap, subst, arith}
 use mathlib.Core.Logic.{∥∥₁_elim, ∥∥₁_map}
 use mathlib.Core.HLevel.{⊥_prop}
 use native.Mathlib.Decide.{dec_lt}
-use Rattle.meaning.specs.declared.refusals.FileFault.{FileFault}
 use Rattle.meaning.specs.declared.refusals.FillingFault.{FillingFault}
 use Rattle.meaning.specs.declared.refusals.FillingFault.TheVariants.{NoRule, LabelsExceed, StandingsExceed}
 use Rattle.logic.specs.Formula.{Formula, Letters}
 use Rattle.logic.specs.Counting.{Number, Fits, Exceeds, RoomIsTold}
 use Rattle.logic.proofs.Tables.{not_both, room_is_told}
-use Rattle.meaning.specs.Bytes.{Text}
 use Rattle.meaning.specs.Charts.{SameLabel, SameStanding, Areas, label_room, standing_room}
-use Rattle.meaning.specs.Kinds.{no_lines}
-use Rattle.meaning.specs.Files.{Rooms, RightLoading, nothing, lines, content, lines_in}
-use Rattle.meaning.specs.Calls.{History}
+use Rattle.meaning.specs.Files.{nothing, lines}
 use Rattle.meaning.specs.Histories.{Ruled, rule_at}
 use Rattle.meaning.specs.Right.{FormulaOf, Counted, HasNoRule, Fills, RightFilling}
-use Rattle.meaning.specs.Claims.{FillsRightly, FillingsCountRightly, SetsRightly, LoadingsSetRightly}
+use Rattle.meaning.specs.Claims.{FillsRightly, FillingsCountRightly, LoadingsSetRightly}
 use Rattle.meaning.proofs.OfBridges.{label_turn, label_join, standing_self, standing_turn, standing_join}
 use Rattle.meaning.proofs.OfHistories.{at_same}
 use Rattle.meaning.proofs.Determined.{not_good_and_bad}

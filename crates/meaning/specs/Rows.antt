@@ -1,5 +1,5 @@
 -- Each refusal comes exactly where its row of docs/REFUSALS.md says: the rows are named in `Places`, `Sheets`, `Right`, `Files`, `Kinds`. Assumes nothing.
-use Rattle.std.specs.Prelude.{◌≡◌, ℕ, ◌≤◌, ◌↔◌, List, length, Some, None, Err, Option}
+use Rattle.std.specs.Prelude.{◌≡◌, ℕ, ◌↔◌, List, length, Some, None, Err, Option}
 use Rattle.meaning.specs.declared.refusals.NamesFault.TheVariants.{Unfit}
 use Rattle.meaning.specs.declared.refusals.RuleFault.TheVariants.{WrongWord, WordWanted, BytesFollow, TooDeep}
 use Rattle.meaning.specs.declared.refusals.SheetFault.TheVariants.{Rule, OverKept, SheetFull}
