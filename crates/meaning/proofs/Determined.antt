@@ -1,5 +1,5 @@
 -- At most one answer is right, up to which shortest walk is shown. Assumes nothing.
-use Rattle.std.proofs.Common.{◌≡◌, ℕ, ◌+◌, ◌≤◌, cond, eqb, List, [], ◌∷◌, length, take, drop, Some, None, Ok, Err, Option, Result, sym, refl, ap, ◌∙◌, subst, ap₂, ⊎_elim, arith, length-take}
+use Rattle.std.proofs.Common.{◌≡◌, ℕ, ◌+◌, cond, eqb, List, [], ◌∷◌, length, take, drop, Some, None, Ok, Err, Option, Result, sym, refl, ap, ◌∙◌, subst, ap₂, ⊎_elim, arith}
 use mathlib.Core.Logic.{∥∥₁_elim}
 use mathlib.Core.HLevel.{⊥_prop, hedberg}
 use mathlib.Core.Bool.{false≢true}
@@ -37,6 +37,8 @@ use Rattle.meaning.specs.Calls.{opening, entering, loading, filling, beginning, 
 use Rattle.meaning.specs.Histories.{names, rules, Ruled, rule_at, filled_rule, watch, meaning_of}
 use Rattle.meaning.specs.Right.{FormulaOf, RightOpening, Fills, RightFilling, RightBeginning, Scans, RightScanning, Searches, RightSearching}
 use Rattle.meaning.specs.Claims.{AlikeSearched, AnswersAreDetermined}
+use Rattle.meaning.proofs.OfHistories.{some_same}
+use Rattle.meaning.proofs.OfClaims.{shown_length}
 use Rattle.meaning.proofs.OfNames.{one_formula, GoodRule, rule_good, filled_good}
 use Rattle.meaning.proofs.OfBridges.{one_number, counts_are_unique, standing_turn, standing_join}
 
@@ -52,9 +54,6 @@ clash r g P Q h x y = agree r g ⊥ ⊥_prop P Q h x y
 
 some_none : {X : Type 0} (x : X) → ◌≡◌ {A = Option X} (Some x) None → ⊥
 some_none x e = grind arith
-
-some_same : {X : Type 0} (x y : X) → ◌≡◌ {A = Option X} (Some x) (Some y) → x ≡ y
-some_same x y e = ap (λ o. elim o [ Some z ↦ z | None ↦ x ]) e
 
 -- ---- opening, beginning
 
@@ -162,9 +161,6 @@ pair_join f m xs ys zs h k = (h.0 ∙ k.0, standing_join f _ _ _ h.1 k.1)
 
 pub pairs_are_unique : (f : Formula) (m : Meaning) (i j : ℕ) → Pairs f m i → Pairs f m j → i ≡ j
 pairs_are_unique f m i j = one_number (Walk m) (SamePair f m) (pair_turn f m) (pair_join f m) i j
-
-shown_length : (k : ℕ) (w : List ℕ) → k ≤ length w → length (take k w) ≡ k
-shown_length k w l = omega (arith, length-take k w)
 
 module _ (r : Ruled) (g : GoodRule (Some r)) (m : Meaning) (p : ℕ) (w : List ℕ) where
   abbrev Found : Result Verdict SearchingFault → List ℕ → Type 0

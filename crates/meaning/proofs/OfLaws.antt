@@ -14,9 +14,10 @@ use Rattle.meaning.specs.Machines.{Meaning, Lawful, Among, Once}
 use Rattle.meaning.specs.Kinds.{State, Step, Lines, no_lines, starts_from, steps_from, table_meaning, no_machine, doubled, stuck_fitting, stuck_fits}
 use Rattle.meaning.specs.Files.{Line, ended, cut, Entry, signals, rule, state, step, entry, Content, nothing, in_place, placed, formed, added_if, content_from, content, lines, lines_in, last_from, Rooms, step_room, SaidOfLine, AllGood}
 use Rattle.meaning.specs.Calls.{Call, opening, entering, loading, filling, beginning, scanning, searching, Answer, History, table, round, stuck, other}
-use Rattle.meaning.specs.Histories.{at, lines_after, table_lines, meaning_of}
+use Rattle.meaning.specs.Histories.{lines_after, table_lines, meaning_of}
 use Rattle.meaning.specs.Right.{Right, AllRight}
 use Rattle.meaning.specs.Laws.{RoundsAreLawful, StuckLayersAreLawful, LoadedTablesAreLawful, MachinesAreLawful}
+use Rattle.meaning.proofs.OfHistories.{at_keeps}
 
 by_test : (P : Bool → Type 0) (b : Bool) → (b ≡ true → P true) → (b ≡ false → P false) → P b
 by_test P true f g = f refl
@@ -228,13 +229,6 @@ loaded_tables_are_lawful r file g = table_lawful (lines_in (content file)) (line
 
 abbrev SoundLines : Lines → Type 0
 SoundLines t = Sound t.states t.steps
-
-at_keeps : {X : Type 0} (P : X → Type 0) (n s : ℕ) (new old : X) → P new → P old → P (at n s new old)
-at_keeps {X} P n s new old p q = go (eqb n s)
-  where
-    go : (b : Bool) → P (cond b new old)
-    go true = p
-    go false = q
 
 after_sound : (h : History) (c : Call) (x : Answer c) → Right h c x → (n : ℕ) (old : Lines) → SoundLines old → SoundLines (lines_after c x n old)
 after_sound h (opening s t) x k n old g = g

@@ -1,5 +1,5 @@
 -- After right answers every sheet has good names, and every chart's rule stood under good names: so a rule has one breach formula. Assumes nothing.
-use Rattle.std.proofs.Common.{◌≡◌, ℕ, Bool, true, false, cond, ◌&&◌, eqb, leb, List, [], ◌∷◌, length, Some, None, Ok, Err, Option, sym, refl, ap, ◌∙◌, arith}
+use Rattle.std.proofs.Common.{◌≡◌, ℕ, Bool, true, false, cond, ◌&&◌, leb, List, [], ◌∷◌, length, Some, None, Ok, Err, Option, sym, refl, ap, ◌∙◌, arith}
 use mathlib.Core.Logic.{∥∥₁_elim}
 use mathlib.Core.HLevel.{hedberg}
 use Rattle.std.proofs.lemmas.Bool.{and_parts}
@@ -17,6 +17,7 @@ use Rattle.meaning.specs.Files.{Line, Entry, signals, rule, state, step, Content
 use Rattle.meaning.specs.Calls.{Call, opening, entering, loading, filling, beginning, scanning, searching, Answer, History}
 use Rattle.meaning.specs.Histories.{at, names_after, names, Ruled, ruled, rule_at, filled_after, filled_rule}
 use Rattle.meaning.specs.Right.{Right, AllRight}
+use Rattle.meaning.proofs.OfHistories.{at_keeps}
 use Rattle.meaning.proofs.OfReading.{texts_mean_one_rule}
 
 -- ---- one breach formula
@@ -43,13 +44,6 @@ fit_good t h =
     let k = and_parts (leb 1 (length (names_of t)) && leb (length (names_of t)) 8) _ h in
     let j = and_parts (all is_name (names_of t)) _ k.1 in
     record { are_names = j.0; stand_once = j.1 }
-
-at_keeps : {X : Type 0} (P : X → Type 0) (n s : ℕ) (new old : X) → P new → P old → P (at n s new old)
-at_keeps {X} P n s new old p q = go (eqb n s)
-  where
-    go : (b : Bool) → P (cond b new old)
-    go true = p
-    go false = q
 
 -- lines that are all good set good names
 line_good : (r : Rooms) (c : Content) (o : Option Entry) → GoodNames c.names → SaidOfLine r c o None → GoodNames (added_if c o).names

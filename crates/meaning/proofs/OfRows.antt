@@ -30,6 +30,7 @@ use Rattle.meaning.specs.Calls.{History}
 use Rattle.meaning.specs.Histories.{names, Ruled, rule_at, filled_rule, watch, meaning_of}
 use Rattle.meaning.specs.Right.{HasNoRule, LabelsExceedRoom, StandingsExceedRoom, RightFilling, ChartIsBlank, RightBeginning, HasNoWatch, WatchIsBroken, RightScanning, HasNoStart, HasManyStates, WalkAreaIsShort, Searchable, PairsExceedRoom, RightSearching, AllRight}
 use Rattle.meaning.specs.Rows.{OfRule, OfWatch, EnteringRows, LoadingRows, FittingRows, RefusalsHaveTheirRows}
+use Rattle.meaning.proofs.OfHistories.{some_same}
 use Rattle.meaning.proofs.OfNames.{names_good}
 use Rattle.meaning.proofs.OfPlaces.{faults_are_told_by_words}
 
@@ -77,9 +78,6 @@ scanning_12 : (o : Option Ruled) (t : Option (List ℕ)) (a : ℕ) → RightScan
 scanning_12 None t a = (λ e. absurd (grind arith), λ k. absurd (k.0 refl))
 scanning_12 (Some r) None a = (λ _. ((λ e. grind arith), refl), λ _. refl)
 scanning_12 (Some r) (Some u) a = (λ h. absurd (∥∥₁_elim h ⊥_prop (λ y. y.2)), λ k. absurd (let e = k.1 in grind arith))
-
-some_same : {X : Type 0} (x y : X) → ◌≡◌ {A = Option X} (Some x) (Some y) → x ≡ y
-some_same x y e = ap (λ o. elim o [ Some z ↦ z | None ↦ x ]) e
 
 scanning_13 : (o : Option Ruled) (t : Option (List ℕ)) (a : ℕ) → RightScanning o t a (Err AlreadyBroken) ↔ OfWatch o t WatchIsBroken
 scanning_13 None t a = (λ e. absurd (grind arith), λ x. absurd (∥∥₁_elim x ⊥_prop (λ y. y.2)))
