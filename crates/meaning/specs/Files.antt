@@ -90,8 +90,7 @@ last_from [] = 0
 last_from (e ∷ []) = e.from
 last_from (e ∷ (d ∷ ds)) = last_from (d ∷ ds)
 
--- an entry in its place: one `signals` line, then rules, states, steps; NUMBER counts without gaps, START is 0 or 1, LETTER 0 to 255;
--- FROM never falls, and both ends are declared
+-- an entry in its place: one `signals` line, then rules, states, steps; NUMBER counts on, START is 0 or 1, LETTER 0 to 255; FROM never falls, and both ends are declared
 abbrev pub in_place : Content → Entry → Bool
 in_place c (signals t) = not c.opened
 in_place c (rule t) = c.opened && (is_empty c.states && is_empty c.steps)
