@@ -186,6 +186,8 @@ file_limits : FileLimits
 file_limits = record {
   bytes_8192 = λ rest e. inr (omega arith, ∣ (Err (record { line = 1; fault = Table Form }), inl (refl, refl), refl) ∣₁);
   bytes_8193 = λ rest e. inl (omega arith, refl);
+  loaded_8192 = λ file out e p. ⊎_elim (λ a. absurd (omega (arith, a.0))) (λ b. b.1) p;
+  only_8193 = λ file out e p. ⊎_elim (λ a. a.1) (λ b. absurd (omega (arith, b.0))) p;
 }
 
 program_limits : ProgramLimits
@@ -196,6 +198,9 @@ program_limits = record {
   step_1025th = λ c f t e. sym (room_none (length c.steps) 1024 (omega arith));
   labels_512 = refl;
   standings_32 = refl;
+  label_area = refl;
+  record_area = refl;
+  next_area = refl;
 }
 
 pub limits : Limits

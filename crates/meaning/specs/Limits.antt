@@ -1,8 +1,9 @@
 -- The limits of names, rules, areas, machines and files from both sides: what is just within, and what is just beyond. Assumes nothing.
-use Rattle.std.specs.Prelude.{◌≡◌, ℕ, zero, suc, ◌+◌, ◌≤◌, true, false, List, [], ◌∷◌, ◌++◌, map, length, replicate, Some, None, Ok, Err, codes}
+use Rattle.std.specs.Prelude.{◌≡◌, ℕ, zero, suc, ◌+◌, ◌≤◌, true, false, List, [], ◌∷◌, ◌++◌, map, length, replicate, Some, None, Ok, Err, codes, Result}
 use Rattle.meaning.specs.declared.refusals.RuleFault.TheVariants.{TooDeep}
 use Rattle.meaning.specs.declared.refusals.SheetFault.TheVariants.{OverKept, SheetFull}
 use Rattle.meaning.specs.declared.refusals.FittingFault.TheVariants.{TooLarge}
+use Rattle.meaning.specs.declared.refusals.FileFault.{FileFault}
 use Rattle.meaning.specs.declared.refusals.LineFault.TheVariants.{Table}
 use Rattle.meaning.specs.declared.refusals.TableFault.TheVariants.{Form, NoRoom}
 use Rattle.meaning.specs.declared.refusals.SearchingFault.TheVariants.{ManyStates, ShortWalkArea}
@@ -16,9 +17,9 @@ use Rattle.meaning.specs.Entering.{RightEntering}
 use Rattle.meaning.specs.Charts.{label_room, standing_room}
 use Rattle.meaning.specs.Machines.{Meaning, Lawful}
 use Rattle.meaning.specs.Kinds.{Lines, table_meaning, round_meaning, stuck_meaning, fitting}
-use Rattle.meaning.specs.Files.{Rooms, Content, state, step, state_room, step_room, SaidOfEntry}
+use Rattle.meaning.specs.Files.{Rooms, Content, state, step, state_room, step_room, SaidOfEntry, RightLoading}
 use Rattle.meaning.specs.Right.{Searches}
-use Rattle.meaning.specs.Printed.{table_rooms, chart_areas, fault_line, Prints}
+use Rattle.meaning.specs.Printed.{table_rooms, chart_areas, fault_line, PrintsLoaded, Prints}
 use Rattle.meaning.specs.Examples.{two_names, times, fault}
 
 -- ---- names: 1 to 8, of 1 to 8 letters
@@ -142,6 +143,9 @@ abbrev pub FileLimits : Type 0
 FileLimits = record {
   bytes_8192 : (rest : Text) → length rest ≡ 8190 → Prints (10 ∷ (10 ∷ rest)) (fault_line (record { line = 1; fault = Table Form }));
   bytes_8193 : (rest : Text) → length rest ≡ 8191 → Prints (10 ∷ (10 ∷ rest)) (fault_line (record { line = 0; fault = Table NoRoom }));
+  -- and nothing else: every file of 8,192 bytes is loaded, and for every one of 8,193 only that line is printed
+  loaded_8192 : (file out : Text) → length file ≡ 8192 → Prints file out → ∥ ((x : Result (Unit {0}) FileFault) × RightLoading table_rooms file x × PrintsLoaded file x out) ∥₁;
+  only_8193 : (file out : Text) → length file ≡ 8193 → Prints file out → out ≡ fault_line (record { line = 0; fault = Table NoRoom });
 }
 
 -- its rooms: 256 states and 1,024 steps, 512 labels and 32 standings
@@ -153,6 +157,9 @@ ProgramLimits = record {
   step_1025th : (c : Content) (f t : ℕ) → length c.steps ≡ 1024 → SaidOfEntry table_rooms c (step f t) (Some (Table NoRoom));
   labels_512 : label_room chart_areas ≡ 512;
   standings_32 : standing_room chart_areas ≡ 32;
+  label_area : chart_areas.labels ≡ 512;
+  record_area : chart_areas.records ≡ 32;
+  next_area : chart_areas.nexts ≡ 8192;
 }
 
 -- all limits
