@@ -17,15 +17,22 @@ fn a_filling_counts_and_refuses(rt: HostRuntime) -> Result<(), Fail> {
 }
 
 #[test]
-fn too_little_room_refuses(rt: HostRuntime) -> Result<(), Fail> {
-    let sheet = sheet_of(b"G -> stop X ! full")?;
-    let mut seven_labels = Areas::new(rt.alloc(), 7, 0, 0)?;
-    let mut chart = seven_labels.chart();
-    assert_eq!(rt; numbered(chart.fill(&sheet, 0)), Err(9));
-    let mut short_next = Areas::new(rt.alloc(), 8, 8, 767)?;
-    let mut chart = short_next.chart();
-    assert_eq!(rt; numbered(chart.fill(&sheet, 0)), Err(10));
-    assert!(rt; chart.is_blank());
+fn too_little_room_blanks_the_chart(rt: HostRuntime) -> Result<(), Fail> {
+    let mut sheet = sheet_of(b"G ! & stop full")?;
+    assert_eq!(rt; numbered(sheet.enter(b"G -> stop X ! full")), Ok(1));
+    for (labels, standings, next, number) in [(7, 3, 768, 9), (8, 2, 768, 10), (8, 3, 767, 10)] {
+        let mut areas = Areas::new(rt.alloc(), labels, standings, next)?;
+        let mut chart = areas.chart();
+        assert!(rt; chart.fill(&sheet, 0).is_ok());
+        assert!(rt; chart.begin().is_ok());
+        assert_eq!(rt; numbered(chart.fill(&sheet, 1)), Err(number));
+        assert!(rt; chart.is_blank());
+        assert_eq!(rt;
+            numbered(chart.scan(0)),
+            Err(11),
+            "neither filling nor watch is left"
+        );
+    }
     Ok(())
 }
 

@@ -7,8 +7,12 @@ mod areas;
 #[cfg(test)]
 mod charts_and_watches;
 #[cfg(test)]
+mod files;
+#[cfg(test)]
 mod fixed_lists;
 #[cfg(test)]
 mod machines_and_walks;
 #[cfg(test)]
 mod ranges;
+#[cfg(test)]
+mod sheets;

@@ -8,21 +8,29 @@ use machines::stuck::StuckLayer;
 use meaning::answers::Verdict;
 use meaning::refusals::SearchingFault;
 use pairs::pair::Pair;
-use std::alloc::{AllocError, Global};
+use std::alloc::Global;
 use std::test::Fail;
 
-// Looks for a breach of a round with room for so many pairs and a walk of so many states.
+// Looks for a breach of a round with room for so many pairs and a walk of so many states. A refusal before looking changes no area.
 fn look(
     heap: Global,
     chart: &Chart,
     letters: &[u8],
     pairs: usize,
     walk: usize,
-) -> Result<Result<Verdict, SearchingFault>, AllocError> {
+) -> Result<Result<Verdict, SearchingFault>, Fail> {
     let mut pairs = vec![in heap; Pair::BLANK; pairs]?;
-    let mut walk = vec![in heap; 0; walk]?;
+    let mut walk = vec![in heap; 9; walk]?;
     let round = Round::new(letters);
-    Ok(find_breach(chart, &round, pairs.as_mut_slice(), walk.as_mut_slice()))
+    let answer = find_breach(chart, &round, pairs.as_mut_slice(), walk.as_mut_slice());
+    let looked = answer.is_ok() || answer == Err(SearchingFault::PairsExceed);
+    if !looked && pairs.as_slice().iter().any(|pair| *pair != Pair::BLANK) {
+        return Err(Fail::new("the pair area is changed"));
+    }
+    if answer.is_err() && walk.as_slice().iter().any(|state| *state != 9) {
+        return Err(Fail::new("the walk area is changed"));
+    }
+    Ok(answer)
 }
 
 #[test]

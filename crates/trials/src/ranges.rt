@@ -206,3 +206,30 @@ fn a_layer_that_does_not_fit(rt: HostRuntime) -> Result<(), Fail> {
     assert!(rt; has_no_states(&StuckLayer::new(&more, 0)));
     Ok(())
 }
+
+#[test]
+fn a_table_up_to_its_limits(rt: HostRuntime) -> Result<(), Fail> {
+    let heap = rt.alloc();
+    let mut states = vec![in heap; State::BLANK; 4097]?;
+    let mut steps = vec![in heap; Step::BLANK; 16385]?;
+    let mut table = Table::new(states.as_mut_slice(), steps.as_mut_slice());
+    for number in 0..4096 {
+        assert_eq!(rt; numbered(table.add_state(number, true, 1)), Ok(()));
+    }
+    assert_eq!(rt; numbered(table.add_state(4096, true, 1)), Err(19));
+    assert_eq!(rt; numbered(table.add_state(4097, true, 1)), Err(18));
+    for at in 0..16384 {
+        assert_eq!(rt; numbered(table.add_step(4095, at % 4096)), Ok(()));
+    }
+    assert_eq!(rt; numbered(table.add_step(4095, 0)), Err(19));
+    assert_eq!(rt; (table.states(), table.steps()), (4096, 16384));
+    assert_eq!(rt;
+        (table.start(4095), table.letter(4095)),
+        (Some(4095), Some(1))
+    );
+    assert_eq!(rt;
+        (table.step(4095, 16383), table.step(4095, 16384)),
+        (Some(4095), None)
+    );
+    Ok(())
+}
