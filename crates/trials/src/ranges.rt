@@ -233,3 +233,20 @@ fn a_table_up_to_its_limits(rt: HostRuntime) -> Result<(), Fail> {
     );
     Ok(())
 }
+
+#[test]
+fn a_pile_too_wide(rt: HostRuntime) -> Result<(), Fail> {
+    let heap = rt.alloc();
+    let mut states = vec![in heap; State::BLANK; 1]?;
+    let mut steps = vec![in heap; Step::BLANK; 0]?;
+    let mut table = Table::new(states.as_mut_slice(), steps.as_mut_slice());
+    assert_eq!(rt; numbered(table.add_state(0, true, 0)), Ok(()));
+    let three = StuckLayer::new(StuckLayer::new(StuckLayer::new(&table, 0), 1), 2);
+    let five = StuckLayer::new(StuckLayer::new(&three, 3), 4);
+    assert_eq!(rt; numbered(five.fitting()), Ok(()));
+    assert_eq!(rt; (five.width(), five.count()), (1048576, 32));
+    let six = StuckLayer::new(&five, 5);
+    assert_eq!(rt; numbered(six.fitting()), Err(20), "a width of 1,048,576");
+    assert!(rt; has_no_states(&six));
+    Ok(())
+}
