@@ -67,7 +67,11 @@ struct Standings<'a> {
 impl<'a> Automaton for Standings<'a> {
     type State = [u64; 8];
 
+    type Ahead = [u64; 8];
+
     ghost leads = { λ s u r. Reached s.table.now s.count s.first u r };
+
+    ghost ahead_of = { λ s r t. r ≡ t };
 
     ghost longer = { at_end };
 
@@ -75,10 +79,14 @@ impl<'a> Automaton for Standings<'a> {
         self.first
     }
 
-    fn after(&self, letter: u8, from: &[u64; 8]) -> [u64; 8] {
+    fn ahead(&self, from: &[u64; 8]) -> [u64; 8] {
+        *from
+    }
+
+    fn after(&self, ahead: &[u64; 8], letter: u8) -> [u64; 8] {
         pack(
             self.count,
-            &|i| has_label(from, self.table[i * 256 + letter as usize] as usize),
+            &|i| has_label(ahead, self.table[i * 256 + letter as usize] as usize),
         )
     }
 

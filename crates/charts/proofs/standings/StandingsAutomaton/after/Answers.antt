@@ -6,5 +6,5 @@ use Rattle.charts.proofs.standings.StandingsAutomaton.after.Goals as goal
 pub returns : goal.returns
 returns c =
     let s = c.args.self.now in
-    λ u h. reached_step s.table.now s.count s.first s.closed u c.args.from.now c.pack.result c.args.letter (omega arith) h
-    (c.pack.ensures (λ i. bit_of c.args.from.now (get_or s.table.now (i * 256 + c.args.letter) 0)) (λ i r l p. search rules))
+    λ from u e h. reached_step s.table.now s.count s.first s.closed u c.args.ahead.now c.pack.result c.args.letter (omega arith) (rw (← e) h)
+    (c.pack.ensures (λ i. bit_of c.args.ahead.now (get_or s.table.now (i * 256 + c.args.letter) 0)) (λ i r l p. search rules))
