@@ -3,7 +3,7 @@
 ghost use Rattle.std.specs.Prelude.{◌≡◌, ℕ, ◌*◌, ◌<◌, ◌≤◌, Bool, [], ◌∷◌, length, MatchOption, slice_index};
 ghost use Rattle.logic.specs.Masks.{mask};
 ghost use Rattle.logic.specs.Formula.{on};
-ghost use Rattle.charting.specs.Sets.{bit_of, bits, Packs, upto};
+ghost use Rattle.charting.specs.Sets.{bit_of, bits, Flags, Packs, upto};
 ghost use Rattle.charting.specs.Worklists.{Rooms};
 ghost use Rattle.charting.specs.Walks.{Closed, Reached, at_end, Charted, Overfull};
 ghost use Rattle.logic.proofs.Tables.{letters_append};
@@ -17,6 +17,17 @@ pub(crate) fn has_label(standing: &[u64; 8], i: usize) -> bool
     ensures { result ≡ bit_of standing.now i }
 {
     (standing[i / 64] >> (i % 64)) % 2 == 1
+}
+
+// Which labels are in a standing: a flag for each number.
+fn flags_of(standing: &[u64; 8]) -> [bool; 512]
+    ensures { Flags (bit_of standing.now) 512 result }
+{
+    let mut flags = [false; 512];
+    for i in 0..512 {
+        flags[i] = has_label(standing, i);
+    }
+    flags
 }
 
 // Word w of the set of the numbers below `count` that pass a test.
@@ -67,11 +78,11 @@ struct Standings<'a> {
 impl<'a> Automaton for Standings<'a> {
     type State = [u64; 8];
 
-    type Ahead = [u64; 8];
+    type Ahead = [bool; 512];
 
     ghost leads = { λ s u r. Reached s.table.now s.count s.first u r };
 
-    ghost ahead_of = { λ s r t. r ≡ t };
+    ghost ahead_of = { λ s r flags. Flags (bit_of r) 512 flags };
 
     ghost longer = { at_end };
 
@@ -79,14 +90,14 @@ impl<'a> Automaton for Standings<'a> {
         self.first
     }
 
-    fn ahead(&self, from: &[u64; 8]) -> [u64; 8] {
-        *from
+    fn ahead(&self, from: &[u64; 8]) -> [bool; 512] {
+        flags_of(from)
     }
 
-    fn after(&self, ahead: &[u64; 8], letter: u8) -> [u64; 8] {
+    fn after(&self, ahead: &[bool; 512], letter: u8) -> [u64; 8] {
         pack(
             self.count,
-            &|i| has_label(ahead, self.table[i * 256 + letter as usize] as usize),
+            &|i| ahead[self.table[i * 256 + letter as usize] as usize],
         )
     }
 
