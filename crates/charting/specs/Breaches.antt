@@ -9,6 +9,6 @@ use Rattle.formulas.specs.declared.breach.BreachFormula.{BreachFormula}
 abbrev pub kept_of : BreachFormula → List Formula
 kept_of b = kept_formulas (held b.nodes) (held b.kept)
 
--- values of the nodes that tell what each letter in front makes of a label
+-- words of the kept formulas that tell what each letter in front makes of a label
 abbrev pub TellLetters : BreachFormula → ℕ → List (List ℕ) → Type 0
-TellLetters b label values = AllBefore (held b.nodes) (held b.kept) label values
+TellLetters b label words = AllBefore (held b.nodes) (held b.kept) label words

@@ -15,7 +15,7 @@ use formulas::breach::BreachFormula;
 impl Automaton for BreachFormula {
     type State = u32;
 
-    type Ahead = [[u64; 256]; 4];
+    type Ahead = [[u64; 32]; 4];
 
     ghost leads = { λ b w x. Labels (kept_of b) w x };
 
@@ -27,11 +27,11 @@ impl Automaton for BreachFormula {
         0
     }
 
-    fn ahead(&self, from: &u32) -> [[u64; 256]; 4] {
-        self.values_before(*from)
+    fn ahead(&self, from: &u32) -> [[u64; 32]; 4] {
+        self.words_before(*from)
     }
 
-    fn after(&self, ahead: &[[u64; 256]; 4], letter: u8) -> u32 {
+    fn after(&self, ahead: &[[u64; 32]; 4], letter: u8) -> u32 {
         self.label_by(ahead, letter)
     }
 

@@ -1,5 +1,5 @@
 -- The value of each node at a letter. Assumes nothing.
-use Rattle.std.specs.Prelude.{◌≡◌, ℕ, ◌+◌, ◌*◌, ◌/◌, ◌%◌, ◌<◌, Bool, true, false, ◌&&◌, ◌||◌, List, [], ◌∷◌, map, length, slice_index, slice_index_or}
+use Rattle.std.specs.Prelude.{◌≡◌, ℕ, ◌+◌, ◌*◌, ◌/◌, ◌%◌, ◌<◌, Bool, true, false, ◌&&◌, ◌||◌, List, [], ◌∷◌, map, take, length, slice_index, slice_index_or}
 use Rattle.std.specs.Bool.{beq}
 use Rattle.logic.specs.Formula.{on}
 use Rattle.logic.specs.Sat.{sat}
@@ -39,10 +39,16 @@ column b words = map (on b) words
 pub record GroupValued (ns : List Node) (group : ℕ) (was : List Bool) (n : ℕ) (words : List ℕ) : Type 0 where
   pub at : (b : ℕ) → b < 64 → Valued ns (group * 64 + b) was n (column b words)
 
--- the label of the kept nodes xs for a letter, by the values for the four groups
-abbrev pub label_in : List ℕ → List (List ℕ) → ℕ → ℕ
-label_in xs groups letter = mask (map (λ k. on (letter % 64) (slice_index (slice_index_or groups (letter / 64) []) k)) xs)
+-- the values of the kept nodes xs as words, for the 64 letters of a group
+pub record KeptValued (ns : List Node) (xs : List ℕ) (group : ℕ) (was : List Bool) (words : List ℕ) : Type 0 where
+  pub all : List ℕ
+  pub valued : GroupValued ns group was (length ns) all
+  pub are : take (length xs) words ≡ map (slice_index all) xs
 
--- what each letter in front makes of a label is in the values for the four groups
+-- the label of n kept nodes for a letter, by the words for the four groups
+abbrev pub label_in : ℕ → List (List ℕ) → ℕ → ℕ
+label_in n groups letter = mask (column (letter % 64) (take n (slice_index_or groups (letter / 64) [])))
+
+-- what each letter in front makes of a label is in the words for the four groups
 pub record AllBefore (ns : List Node) (xs : List ℕ) (old : ℕ) (groups : List (List ℕ)) : Type 0 where
-  pub at : (letter : ℕ) → letter < 256 → Before ns xs letter old (label_in xs groups letter)
+  pub at : (letter : ℕ) → letter < 256 → Before ns xs letter old (label_in (length xs) groups letter)

@@ -6,7 +6,7 @@ ghost use Rattle.formulas.specs.Keeps.{Keeps};
 ghost use Rattle.formulas.specs.Values.{AllBefore, label_in};
 ghost use Rattle.formulas.specs.Marks.{ManyKept};
 
-use crate::labels::{all_values, gather, spread};
+use crate::labels::{all_words, gather, spread};
 use crate::marks::{is_topological, mark, pick};
 use crate::node::Node;
 use fixed::FixedList;
@@ -38,21 +38,22 @@ impl BreachFormula {
         Some(BreachFormula { nodes, root, kept })
     }
 
-    // The values of all nodes for all letters in front of a word, from the label of the word.
-    pub fn values_before(&self, label: u32) -> [[u64; 256]; 4]
+    // What all letters in front make of a label: the values of the kept formulas, 64 letters to a word.
+    pub fn words_before(&self, label: u32) -> [[u64; 32]; 4]
         ensures { AllBefore (held self.now.nodes) (held self.now.kept) label result }
     {
         let kept = self.kept.as_slice();
         let was = spread(kept, label);
-        all_values(self.nodes.as_slice(), &was)
+        all_words(self.nodes.as_slice(), kept, &was)
     }
 
-    // The label of a word with a letter in front, from the values for all letters.
-    pub fn label_by(&self, values: &[[u64; 256]; 4], letter: u8) -> u32
-        ensures { result ≡ label_in (held self.now.kept) values.now letter }
+    // The label of a word with a letter in front, from what all letters make of it.
+    pub fn label_by(&self, words: &[[u64; 32]; 4], letter: u8) -> u32
+        ensures { result ≡ label_in (length (held self.now.kept)) words.now letter }
     {
         let letter = letter as usize;
-        gather(self.kept.as_slice(), &values[letter / 64], letter % 64)
+        let group = &words[letter / 64];
+        gather(&group[..self.kept.len()], letter % 64)
     }
 
     // The place of the formula itself among its kept formulas.

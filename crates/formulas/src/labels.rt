@@ -1,10 +1,10 @@
 // The labels of a word with one letter more in front, for all letters: 64 letters are a group, and a word of 64 bits says something of each.
-ghost use Rattle.std.specs.Prelude.{◌≡◌, ℕ, ◌+◌, ◌*◌, ◌<◌, ◌≤◌, [], map, length, slice_index, slice_index_or};
+ghost use Rattle.std.specs.Prelude.{◌≡◌, ℕ, ◌+◌, ◌*◌, ◌<◌, ◌≤◌, [], map, take, length, slice_index, slice_index_or};
 ghost use Rattle.std.specs.Bool.{beq};
 ghost use Rattle.logic.specs.Formula.{on};
 ghost use Rattle.logic.specs.Masks.{mask};
 ghost use Rattle.formulas.specs.Nodes.{Topological, Placed};
-ghost use Rattle.formulas.specs.Values.{value, Spread, column, GroupValued};
+ghost use Rattle.formulas.specs.Values.{value, Spread, column, GroupValued, KeptValued};
 
 use crate::node::Node;
 
@@ -88,28 +88,42 @@ fn values(nodes: &[Node], group: usize, was: &[bool; 256]) -> [u64; 256]
     holds
 }
 
-// The values of all nodes for the letters of each group.
-pub(crate) fn all_values(nodes: &[Node], was: &[bool; 256]) -> [[u64; 256]; 4]
-    requires ordered { Topological nodes.now }
-    ensures { (g : ℕ) → g < 4 → GroupValued nodes.now g was.now (length nodes.now) (slice_index_or result g []) }
+// The values of the kept nodes alone, in their order.
+fn kept_words(keep: &[u16], holds: &[u64; 256]) -> [u64; 32]
+    requires few { length keep.now ≤ 32 }
+    requires below { (j : ℕ) → j < length keep.now → slice_index keep.now j < 256 }
+    ensures { take (length keep.now) result ≡ map (λ k. slice_index holds.now k) keep.now }
 {
-    let mut groups = [[0u64; 256]; 4];
+    let mut words = [0u64; 32];
+    for (j, number) in keep.iter().enumerate() {
+        words[j] = holds[*number as usize];
+    }
+    words
+}
+
+// The values of the kept nodes for the letters of each group, from what is so after the letters.
+pub(crate) fn all_words(nodes: &[Node], keep: &[u16], was: &[bool; 256]) -> [[u64; 32]; 4]
+    requires ordered { Topological nodes.now }
+    requires few { length keep.now ≤ 32 }
+    requires below { (j : ℕ) → j < length keep.now → slice_index keep.now j < 256 }
+    ensures { (g : ℕ) → g < 4 → KeptValued nodes.now keep.now g was.now (slice_index_or result g []) }
+{
+    let mut groups = [[0u64; 32]; 4];
     for group in 0..4 {
-        groups[group] = values(nodes, group, was);
+        groups[group] = kept_words(keep, &values(nodes, group, was));
     }
     groups
 }
 
-// The label of the kept nodes that hold for letter b of a group.
-pub(crate) fn gather(keep: &[u16], holds: &[u64; 256], b: usize) -> u32
-    requires few { length keep.now ≤ 32 }
-    requires below { (j : ℕ) → j < length keep.now → slice_index keep.now j < 256 }
+// The label of what holds for letter b of a group.
+pub(crate) fn gather(words: &[u64], b: usize) -> u32
+    requires few { length words.now ≤ 32 }
     requires letter { b < 64 }
-    ensures { result ≡ mask (map (λ k. on b (slice_index holds.now k)) keep.now) }
+    ensures { result ≡ mask (column b words.now) }
 {
     let mut label = 0u32;
-    for number in keep.iter().rev() {
-        label = label * 2 + ((holds[*number as usize] >> b) % 2) as u32;
+    for word in words.iter().rev() {
+        label = label * 2 + ((*word >> b) % 2) as u32;
     }
     label
 }

@@ -1,5 +1,5 @@
-use Rattle.std.proofs.Common.{◌&&◌, ◌||◌, sym, refl, ap, ap₂, ◌∙◌, arith}
-use Rattle.formulas.proofs.Words.{all_on, none_on, on_and, on_or, on_not, column_at}
+use Rattle.std.proofs.Common.{◌&&◌, ◌||◌, sym, ap₂, ◌∙◌}
+use Rattle.formulas.proofs.Words.{all_on, none_on, on_and, on_or, column_at}
 use Rattle.formulas.proofs.labels.value_of.Goals as goal
 
 pub returns-in-True : goal.returns-in-True
