@@ -1,12 +1,12 @@
 -- Sets as words. Assumes nothing.
-use Rattle.std.proofs.Common.{◌≡◌, ℕ, zero, suc, ◌+◌, ◌-◌, ◌*◌, ◌/◌, ◌%◌, ◌^◌, ◌<◌, ◌≤◌, Bool, true, false, cond, ◌&&◌, List, ◌∷◌, length, get_or, drop, sym, refl, ap, ◌∙◌, ap₂, ⊎_elim, arith, drop-cons, pow-suc, take, length-take-le, get_or-take}
+use Rattle.std.proofs.Common.{◌≡◌, ℕ, zero, suc, ◌+◌, ◌-◌, ◌*◌, ◌/◌, ◌%◌, ◌^◌, ◌<◌, ◌≤◌, Bool, true, false, cond, ◌&&◌, List, ◌∷◌, length, get_or, drop, sym, refl, ap, ◌∙◌, ap₂, ⊎_elim, arith, drop-cons, pow-suc, take, length-take-le, get_or-take, set, ◌≢◌, below_more, length-set, get_or-set_other, get_or-set_same}
 use mir.Val.{bool_byte}
 use Rattle.std.proofs.lemmas.Bool.{cases_lt, lt-ltb, le-ltb}
 use Rattle.logic.specs.Formula.{on}
 use Rattle.logic.specs.Masks.{mask}
 use Rattle.logic.proofs.Masks.{masks_are_right}
 use Rattle.once.specs.Once.{SameWords}
-use Rattle.charting.specs.Sets.{bit_of, bits, Packs, upto}
+use Rattle.charting.specs.Sets.{bit_of, bits, Packs, Flags, upto}
 
 pub bits_length : (p : ℕ → Bool) (i n : ℕ) → length (bits p i n) ≡ n
 unfolding bits
@@ -50,6 +50,13 @@ upto_in n p i l = ap (λ b. b && p i) (lt-ltb i n l)
 
 pub upto_out : (n : ℕ) (p : ℕ → Bool) (i : ℕ) → n ≤ i → upto n p i ≡ false
 upto_out n p i l = ap (λ b. b && p i) (le-ltb i n l)
+
+pub flags_more : (p : ℕ → Bool) (n : ℕ) (flags : List Bool) (r : Bool) → n < 512 → r ≡ p n → Flags p n flags → Flags p (n + 1) (set flags n r)
+flags_more p n flags r small e f = record {
+  size = simp length-set f.size;
+  at = below_more _ _ (λ i l. let ne : i ≢ n = omega arith in get_or-set_other flags n i r false ne ∙ f.at i l)
+      (get_or-set_same flags n r false (omega (arith, f.size)) ∙ e);
+}
 
 -- ---- a word, bit by bit from the top
 

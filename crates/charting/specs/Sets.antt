@@ -1,5 +1,5 @@
 -- A set of numbers below 512 as eight words of 64 bits. Assumes nothing.
-use Rattle.std.specs.Prelude.{◌≡◌, ℕ, zero, suc, ◌*◌, ◌/◌, ◌%◌, ◌<◌, ◌≤◌, Bool, false, ◌&&◌, List, [], ◌∷◌, length, nat_lt, slice_index, slice_index_or}
+use Rattle.std.specs.Prelude.{◌≡◌, ℕ, zero, suc, ◌*◌, ◌/◌, ◌%◌, ◌<◌, Bool, false, ◌&&◌, List, [], ◌∷◌, length, nat_lt, slice_index, slice_index_or}
 use Rattle.logic.specs.Formula.{on}
 use Rattle.logic.specs.Masks.{mask}
 
@@ -20,7 +20,6 @@ pub record Packs (p : ℕ → Bool) (r : List ℕ) : Type 0 where
 pub record Flags (p : ℕ → Bool) (n : ℕ) (flags : List Bool) : Type 0 where
   pub size : length flags ≡ 512
   pub at : (i : ℕ) → i < n → slice_index_or flags i false ≡ p i
-  pub rest : (i : ℕ) → n ≤ i → slice_index_or flags i false ≡ false
 
 -- p, of the numbers below n only
 abbrev pub upto : ℕ → (ℕ → Bool) → ℕ → Bool

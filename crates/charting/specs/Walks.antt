@@ -1,5 +1,5 @@
 -- Sets of labels by a table of the labels one letter earlier. Assumes nothing.
-use Rattle.std.specs.Prelude.{ℕ, ◌+◌, ◌*◌, ◌<◌, ◌≤◌, Bool, List, [], ◌∷◌, ◌++◌, length, slice_index}
+use Rattle.std.specs.Prelude.{◌≡◌, ℕ, ◌+◌, ◌*◌, ◌<◌, ◌≤◌, Bool, List, [], ◌∷◌, ◌++◌, length, slice_index}
 use Rattle.once.specs.Once.{SameWords}
 use Rattle.charting.specs.Sets.{bit_of, Packs, upto}
 use Rattle.charting.specs.Worklists.{Reaches, LetterRow, LetterRows, Crowds, Complete, Overflows}
@@ -9,6 +9,10 @@ pub record Closed (tb : List ℕ) (a : ℕ) : Type 0 where
   pub room : a * 256 ≤ length tb
   pub few : a ≤ 512
   pub below : (k : ℕ) → k < a * 256 → slice_index tb k < a
+
+-- the rows below a as columns of 512, one for each letter
+pub record Turned (tb : List ℕ) (a : ℕ) (columns : List ℕ) : Type 0 where
+  pub at : (s i : ℕ) → s < 256 → i < a → slice_index columns (s * 512 + i) ≡ slice_index tb (i * 256 + s)
 
 -- the number of the label of u with a word of label i after it
 abbrev pub trace : List ℕ → List ℕ → ℕ → ℕ

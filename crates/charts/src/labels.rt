@@ -4,7 +4,7 @@ ghost use Rattle.std.proofs.Common.{rules};
 ghost use Rattle.logic.specs.Formula.{Letters};
 ghost use Rattle.logic.specs.Counting.{More};
 ghost use Rattle.logic.specs.Standings.{SameLabel};
-ghost use Rattle.charting.specs.Breaches.{kept_of};
+ghost use Rattle.charting.specs.Breaches.{kept_of, TellLetters};
 ghost use Rattle.charting.specs.Worklists.{Rooms};
 ghost use Rattle.charting.specs.Labels.{Labels, at_front, Labelled};
 
@@ -15,7 +15,11 @@ use formulas::breach::BreachFormula;
 impl Automaton for BreachFormula {
     type State = u32;
 
+    type Ahead = [[u64; 32]; 4];
+
     ghost leads = { λ b w x. Labels (kept_of b) w x };
+
+    ghost ahead_of = { TellLetters };
 
     ghost longer = { at_front };
 
@@ -23,8 +27,12 @@ impl Automaton for BreachFormula {
         0
     }
 
-    fn after(&self, letter: u8, from: &u32) -> u32 {
-        self.label_before(letter, *from)
+    fn ahead(&self, from: &u32) -> [[u64; 32]; 4] {
+        self.words_before(*from)
+    }
+
+    fn after(&self, ahead: &[[u64; 32]; 4], letter: u8) -> u32 {
+        self.label_by(ahead, letter)
     }
 
     ghost same = { Prim.search rules };

@@ -10,8 +10,14 @@ use once::{Item, KeepOnce};
 pub(crate) trait Automaton {
     type State: Item + Copy + Drop;
 
+    // what is computed of a state for all letters at once
+    type Ahead: Copy + Drop;
+
     // whether a word leads to a state
     ghost leads: { Self → List ℕ → Self.State → Type 0 };
+
+    // whether it is what is computed of a state
+    ghost ahead_of: { Self → Self.State → Self.Ahead → Type 0 };
 
     // a word with one letter more
     ghost longer: { ℕ → List ℕ → List ℕ };
@@ -20,9 +26,13 @@ pub(crate) trait Automaton {
     fn first(&self) -> Self::State
         ensures { leads self.now [] result };
 
-    // The state one letter after another.
-    fn after(&self, letter: u8, from: &Self::State) -> Self::State
-        ensures { (u : List ℕ) → leads self.now u from.now → leads self.now (longer letter u) result };
+    // What the states after a state are read from.
+    fn ahead(&self, from: &Self::State) -> Self::Ahead
+        ensures { ahead_of self.now from.now result };
+
+    // The state one letter after the one of which this was computed.
+    fn after(&self, ahead: &Self::Ahead, letter: u8) -> Self::State
+        ensures { (from : Self.State) (u : List ℕ) → ahead_of self.now from ahead.now → leads self.now u from → leads self.now (longer letter u) result };
 
     // what leads to a state leads to each that is the same
     ghost same: { (a : Self) (u : List ℕ) (x y : Self.State) → Self.State.alike x y → leads a u y → leads a u x };
@@ -47,8 +57,9 @@ fn fill_row<A: Automaton>(
     ensures rest { (k : ℕ) → k < i * 256 → slice_index next.new k ≡ slice_index next.old k }
 {
     let from = *list.get(i).unwrap();
+    let ahead = automaton.ahead(&from);
     for letter in 0..=u8::MAX {
-        let k = list.add(automaton.after(letter, &from))?;
+        let k = list.add(automaton.after(&ahead, letter))?;
         next[i * 256 + letter as usize] = k as u16;
     }
     Some(())

@@ -1,5 +1,6 @@
 pub mod Formulas
 pub mod Kept
+pub mod Words
 pub mod Steps
 pub mod Marking
 pub mod Differ

@@ -1,11 +1,10 @@
 -- One node, one bit. Assumes nothing.
-use Rattle.std.proofs.Common.{◌≡◌, ℕ, suc, ◌+◌, ◌^◌, ◌<◌, ◌≤◌, Bool, true, false, ◌&&◌, ◌||◌, List, [], ◌∷◌, ◌++◌, map, length, get_or, set, sym, refl, ap, ◌∙◌, subst, ap₂, inl, inr, ⊎_elim, arith, length-append, length-set, get_or-set_other, get_or-set_same, pow_mono}
+use Rattle.std.proofs.Common.{◌≡◌, ℕ, suc, ◌+◌, ◌*◌, ◌/◌, ◌%◌, ◌^◌, ◌<◌, ◌≤◌, Bool, false, ◌&&◌, ◌||◌, List, [], ◌∷◌, ◌++◌, map, length, get_or, set, sym, refl, ap, ◌∙◌, subst, ap₂, inl, inr, ⊎_elim, arith, length-append, length-set, get_or-set_other, get_or-set_same, pow_mono, take, length-take-le, get_or-take}
 use mathlib.Core.Logic.{∥∥₁_elim}
 use native.Mathlib.Nat.{ℕ_set}
-use mir.Val.{bool_byte}
 use Rattle.std.proofs.lemmas.Bool.{cases_eq}
-use Rattle.std.proofs.lemmas.Grind.{common_steps}
-use Rattle.std.proofs.lemmas.List.{length-map, get_or-map}
+use Rattle.std.proofs.lemmas.Grind.{common_steps, same_number_lists}
+use Rattle.std.proofs.lemmas.List.{length-map, get_or-map, map-set, append_assoc}
 use Rattle.std.proofs.lemmas.Simd.{map-map}
 use Rattle.logic.specs.Formula.{Formula, on}
 use Rattle.logic.specs.Sat.{sat}
@@ -16,9 +15,10 @@ use Rattle.formulas.specs.declared.node.Node.{Node}
 use Rattle.formulas.specs.declared.node.Node.TheVariants.{True, And, Or, Next, Until, Release}
 use Rattle.formulas.specs.Nodes.{formula, Topological}
 use Rattle.formulas.specs.Keeps.{Part, Under, top, down, KeepsAt, KeptNode, root, at, Keeps, kept_formulas, Before}
-use Rattle.formulas.specs.Values.{value, Spread, Valued}
+use Rattle.formulas.specs.Values.{value, Spread, Valued, column, GroupValued, KeptValued, AllBefore}
 use Rattle.formulas.proofs.Formulas.{made, formula_at}
 use Rattle.formulas.proofs.Kept.{part_below}
+use Rattle.formulas.proofs.Words.{column_at, bit_is}
 
 -- the value of a node is whether the letter and the word are a breach of its formula
 module _ (G : ℕ → Formula) (s : ℕ) (w : List ℕ) (was holds : List Bool) where
@@ -96,35 +96,72 @@ before_is ns ordered r l xs ks s old was holds sp v = record {
       ∙ sym (map-map (λ g. sat g (s ∷ w)) (formula ns) xs));
 }
 
--- the same where the nodes and the kept numbers are parts of longer lists
-pub label_step : (ns ms : List Node) (xs ys : List ℕ) → ms ≡ ns → ys ≡ xs → Topological ns → (r : ℕ) → r < length ns → ∥ Keeps ns r xs ∥₁
-    → (s old new : ℕ) (was holds : List Bool) → Spread ys (length ys) old was → Valued ms s was (length ms) holds
-    → new ≡ mask (map (λ k. get_or holds k false) ys) → Before ns xs s old new
-label_step ns ms xs ys p q ordered r l keeps s old new was holds sp v e = record {
-  is = λ w h.
-      let sp2 : Spread xs (length xs) old was = subst (λ (zs : List ℕ). Spread zs (length zs) old was) q sp in
-      let v2 : Valued ns s was (length ns) holds = subst (λ (zs : List Node). Valued zs s was (length zs) holds) p v in
-      e ∙ ap (λ (zs : List ℕ). mask (map (λ k. get_or holds k false) zs)) q
-      ∙ ∥∥₁_elim keeps (ℕ_set _ _) (λ k. (before_is ns ordered r l xs k s old was holds sp2 v2).is w h);
+-- the words of one node more
+pub group_valued_more : (ns : List Node) → Topological ns → (group : ℕ) (was : List Bool) (n : ℕ) (words : List ℕ) (word : ℕ) → n < length ns
+    → ((b : ℕ) → b < 64 → on b word ≡ value (group * 64 + b) was (column b words) n (get_or ns n True))
+    → GroupValued ns group was n words → GroupValued ns group was (n + 1) (set words n word)
+group_valued_more ns ordered group was n words word l e v = record
+    { at = λ b small. rw (map-set (on b) words n word) (valued_more ns ordered (group * 64 + b) was n (column b words) (on b word) l (e b small) (v.at b small)) }
+
+-- the label of a letter by the kept words, and by the column of all
+by_column : (xs all words : List ℕ) (b : ℕ) → take (length xs) words ≡ map (λ k. get_or all k 0) xs
+    → mask (column b (take (length xs) words)) ≡ mask (map (λ k. get_or (column b all) k false) xs)
+by_column xs all words b e =
+    ap (λ ws. mask (column b ws)) e ∙ ap mask (map-map (on b) (λ k. get_or all k 0) xs)
+    ∙ ap mask (map_same_at (λ k. on b (get_or all k 0)) (λ k. get_or (column b all) k false) xs (λ j l. sym (column_at b all (get_or xs j 0))))
+
+-- what the letters make of a label, where the nodes and the kept numbers are parts of longer lists
+pub all_before : (ns ms : List Node) (xs ys : List ℕ) → ms ≡ ns → ys ≡ xs → Topological ns → (r : ℕ) → r < length ns → ∥ Keeps ns r xs ∥₁
+    → (old : ℕ) (was : List Bool) (groups : List (List ℕ)) → Spread ys (length ys) old was
+    → ((g : ℕ) → g < 4 → KeptValued ms ys g was (get_or groups g [])) → AllBefore ns xs old groups
+all_before ns ms xs ys p q ordered r l keeps old was groups sp v = record {
+  at = λ s small. record {
+    is = λ w h.
+        let g = s / 64 in
+        let b = s % 64 in
+        let t = v g (omega arith) in
+        let e : g * 64 + b ≡ s = omega arith in
+        let sp2 : Spread xs (length xs) old was = subst (λ (zs : List ℕ). Spread zs (length zs) old was) q sp in
+        let are : take (length xs) (get_or groups g []) ≡ map (λ k. get_or t.all k 0) xs =
+        subst (λ (zs : List ℕ). take (length zs) (get_or groups g []) ≡ map (λ k. get_or t.all k 0) zs) q t.are in
+        let v1 : Valued ms (g * 64 + b) was (length ms) (column b t.all) = t.valued.at b (omega arith) in
+        let v2 : Valued ns (g * 64 + b) was (length ns) (column b t.all) = subst (λ (zs : List Node). Valued zs (g * 64 + b) was (length zs) (column b t.all)) p v1 in
+        let v3 : Valued ns s was (length ns) (column b t.all) = subst (λ (i : ℕ). Valued ns i was (length ns) (column b t.all)) e v2 in
+        by_column xs t.all (get_or groups g []) b are ∙ ∥∥₁_elim keeps (ℕ_set _ _) (λ k. (before_is ns ordered r l xs k s old was (column b t.all) sp2 v3).is w h);
+  };
 }
 
--- the label of what follows `rest` in xs
-pub record Gathered (xs : List ℕ) (h : List Bool) (rest : List ℕ) (lab : ℕ) : Type 0 where
+-- the label of what follows `rest` in words
+pub record Gathered (words : List ℕ) (b : ℕ) (rest : List ℕ) (lab : ℕ) : Type 0 where
   pub after : List ℕ
-  pub are : xs ≡ rest ++ after
-  pub is : lab ≡ mask (map (λ k. get_or h k false) after)
+  pub are : words ≡ rest ++ after
+  pub is : lab ≡ mask (column b after)
 
-pub bit_small : (b : Bool) → bool_byte b ≤ 1
-bit_small true = omega arith
-bit_small false = omega arith
-
-pub gather_fits : {xs : List ℕ} {h : List Bool} {rest : List ℕ} {lab : ℕ} (front : List ℕ) (x : ℕ) → rest ≡ front ++ x ∷ []
-    → length xs ≤ 32 → Gathered xs h rest lab → lab < 2147483648
-gather_fits {xs} {h} {rest} {lab} front x e l g =
-    let bs = map (λ k. get_or h k false) g.after in
+pub gather_fits : {words : List ℕ} {b : ℕ} {rest : List ℕ} {lab : ℕ} (front : List ℕ) (x : ℕ) → rest ≡ front ++ x ∷ []
+    → length words ≤ 32 → Gathered words b rest lab → lab < 2147483648
+gather_fits {words} {b} {rest} {lab} front x e l g =
+    let bs = column b g.after in
     let s = (masks_are_right bs).small in
-    let n : length bs ≡ length g.after = length-map g.after (λ k. get_or h k false) in
-    let m : length xs ≡ length rest + length g.after = ap length g.are ∙ length-append rest g.after in
+    let n : length bs ≡ length g.after = length-map g.after (on b) in
+    let m : length words ≡ length rest + length g.after = ap length g.are ∙ length-append rest g.after in
     let r : length rest ≡ length front + 1 = ap length e ∙ length-append front (x ∷ []) in
     let p : 2 ^ length bs ≤ 2 ^ 31 = pow_mono {i = length bs} {j = 31} (omega arith) in
     omega (arith, s, p, g.is)
+
+pub gathered_more : {words : List ℕ} {b : ℕ} {rest : List ℕ} {lab : ℕ} (front : List ℕ) (x : ℕ) → rest ≡ front ++ x ∷ [] → Gathered words b rest lab
+    → Gathered words b front (lab * 2 + x / 2 ^ b % 2)
+gathered_more {words} {b} {rest} {lab} front x e g = record {
+  after = x ∷ g.after;
+  are = g.are ∙ ap (λ zs. zs ++ g.after) e ∙ append_assoc front (x ∷ []) g.after;
+  is = omega (arith, g.is, bit_is b x);
+}
+
+-- the words of the kept numbers, once all are written
+pub kept_are : (xs all words : List ℕ) → length xs ≤ length words → ((j : ℕ) → j < length xs → get_or words j 0 ≡ get_or all (get_or xs j 0) 0)
+    → take (length xs) words ≡ map (λ k. get_or all k 0) xs
+kept_are xs all words fits h =
+    let n : length (take (length xs) words) ≡ length xs = length-take-le (length xs) words fits in
+    same_number_lists (take (length xs) words) (map (λ k. get_or all k 0) xs) (n ∙ sym (length-map xs (λ k. get_or all k 0)))
+    (λ j l.
+    let small : j < length xs = omega (arith, n) in
+    get_or-take (length xs) words j 0 small ∙ h j small ∙ sym (get_or-map (λ k. get_or all k 0) xs j 0 0 small))

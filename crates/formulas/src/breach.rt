@@ -2,10 +2,11 @@
 ghost use Rattle.std.specs.Prelude.{◌≡◌, ℕ, ◌<◌, length, MatchOption, slice_index};
 ghost use Rattle.fixed.specs.Held.{held};
 ghost use Rattle.formulas.specs.Nodes.{Topological, OperandsFirst, SignalsSmall};
-ghost use Rattle.formulas.specs.Keeps.{Keeps, Before};
+ghost use Rattle.formulas.specs.Keeps.{Keeps};
+ghost use Rattle.formulas.specs.Values.{AllBefore, label_in};
 ghost use Rattle.formulas.specs.Marks.{ManyKept};
 
-use crate::labels::{gather, spread, values};
+use crate::labels::{all_words, gather, spread};
 use crate::marks::{is_topological, mark, pick};
 use crate::node::Node;
 use fixed::FixedList;
@@ -37,14 +38,22 @@ impl BreachFormula {
         Some(BreachFormula { nodes, root, kept })
     }
 
-    // The label of a word with a letter in front, from the label of the word.
-    pub fn label_before(&self, letter: u8, label: u32) -> u32
-        ensures { Before (held self.now.nodes) (held self.now.kept) letter label result }
+    // What all letters in front make of a label: the values of the kept formulas, 64 letters to a word.
+    pub fn words_before(&self, label: u32) -> [[u64; 32]; 4]
+        ensures { AllBefore (held self.now.nodes) (held self.now.kept) label result }
     {
         let kept = self.kept.as_slice();
         let was = spread(kept, label);
-        let holds = values(self.nodes.as_slice(), letter, &was);
-        gather(kept, &holds)
+        all_words(self.nodes.as_slice(), kept, &was)
+    }
+
+    // The label of a word with a letter in front, from what all letters make of it.
+    pub fn label_by(&self, words: &[[u64; 32]; 4], letter: u8) -> u32
+        ensures { result ≡ label_in (length (held self.now.kept)) words.now letter }
+    {
+        let letter = letter as usize;
+        let group = &words[letter / 64];
+        gather(&group[..self.kept.len()], letter % 64)
     }
 
     // The place of the formula itself among its kept formulas.

@@ -1,5 +1,5 @@
 use denote.Ref.{MutBor}
-use Rattle.std.specs.Prelude.{◌≡◌, ℕ, ◌+◌, ◌<◌, ◌≤◌, ◌⊎◌, List, length, Some, None, Option, slice_index, slice_index_or, slice_set}
+use Rattle.std.specs.Prelude.{◌≡◌, ℕ, ◌+◌, ◌*◌, ◌%◌, ◌^◌, ◌<◌, ◌≤◌, ◌⊎◌, List, length, Some, None, Option, slice_index, slice_index_or, slice_set}
 
 -- no two of the first n entries are the same item
 pub record Apart {X : Type 0} (alike : X → X → Type 0) (xs : List X) (n : ℕ) : Type 0 where
@@ -37,3 +37,13 @@ pub record GoesOn {X : Type 0} (alike : X → X → Type 0) (a : MutBor (List X)
 -- two records of eight words are the same
 pub record SameWords (xs ys : List ℕ) : Type 0 where
   pub at : (k : ℕ) → k < 8 → slice_index xs k ≡ slice_index ys k
+
+-- a number with one word more mixed in, in 64 bits
+abbrev pub mix : ℕ → ℕ → ℕ
+mix number word = (number * 31 % 2 ^ 64 + word) % 2 ^ 64
+
+-- eight words mixed into one number
+abbrev pub mixed : List ℕ → ℕ
+mixed xs =
+    let at = slice_index xs in
+    mix (mix (mix (mix (mix (mix (mix (at 0) (at 1)) (at 2)) (at 3)) (at 4)) (at 5)) (at 6)) (at 7)

@@ -1,5 +1,5 @@
 // An entry of the pair area.
-ghost use Rattle.std.specs.Prelude.{◌≡◌};
+ghost use Rattle.std.specs.Prelude.{◌≡◌, ◌+◌, ◌*◌, ◌%◌};
 ghost use Rattle.std.proofs.Common.{rules};
 
 use once::Item;
@@ -29,7 +29,7 @@ impl Pair {
 impl Item for Pair {
     ghost alike = { λ p q. (p.state ≡ q.state) × (p.standing ≡ q.standing) };
 
-    ghost bucketed = { λ p. p.standing };
+    ghost bucketed = { λ p. p.state % 65536 * 65536 + p.standing };
 
     ghost reflexive = { Prim.search rules };
 
@@ -44,6 +44,6 @@ impl Item for Pair {
     }
 
     fn bucket(&self) -> u32 {
-        self.standing as u32
+        (self.state % 65536) as u32 * 65536 + self.standing as u32
     }
 }

@@ -1,8 +1,8 @@
 use Rattle.std.proofs.Common.{rules}
-use Rattle.formulas.proofs.Steps.{valued_more}
+use Rattle.formulas.proofs.Steps.{group_valued_more}
 use Rattle.formulas.proofs.labels.values.Goals as goal
 
 pub loop-k-preserved : goal.loop-k-preserved
 loop-k-preserved c =
-    valued_more c.args.nodes.now c.requires.ordered c.args.letter c.args.was.now c.loop-k.k c.loop-k.holds _ c.loop-k-test.true
+    group_valued_more c.args.nodes.now c.requires.ordered c.args.group c.args.was.now c.loop-k.k c.loop-k.holds _ c.loop-k-test.true
     (search rules) c.loop-k.invariant

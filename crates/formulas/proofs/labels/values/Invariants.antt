@@ -1,5 +1,5 @@
-use Rattle.formulas.specs.Values.{Valued}
+use Rattle.formulas.specs.Values.{GroupValued}
 use Rattle.formulas.proofs.labels.values.Given as goal
 
 abbrev pub invariant-loop-k : goal.invariant-loop-k
-invariant-loop-k l = Valued l.nodes l.letter l.was l.k l.holds
+invariant-loop-k l = GroupValued l.nodes l.group l.was l.k l.holds
