@@ -1,0 +1,4 @@
+pub mod Looks
+pub mod Meant
+pub mod Objects
+pub mod Replayed
