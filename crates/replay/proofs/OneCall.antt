@@ -206,7 +206,7 @@ scanned cs n a e d' r l f same ss ts =
     subst (λ (c : MeantCall). StepLed c (Scanned r) (objects ss ts cs) (objects ss ts (slice_set cs n d'))) (sym (chart_made ss ts cs n (scanning n a) l))
     (on_chart (scanning n a) r (Scanned r) ss ts cs n d d' refl refl refl refl (get_at cs n e l) (same_areas d d' same) (λ h sheets chart. f h n chart))
 
--- ---- the search
+-- ---- looking for a breach
 
 -- a call that is made on no object to change it leaves all as they are
 looked_on : (c : Call) (g : Option (Given c)) (h : History) (o : Objects) → sheet_of c ≡ None → table_of c ≡ None → chart_of c ≡ None

@@ -1,3 +1,4 @@
+pub mod AnswerText
 pub mod Looks
 pub mod Meant
 pub mod Objects

@@ -1,4 +1,4 @@
--- What a search answers, whatever calls were made before. Assumes nothing.
+-- What looking for a breach answers, whatever calls were made before. Assumes nothing.
 use Rattle.std.specs.Prelude.{◌≡◌, ℕ, List, Some, Ok, Result, slice_get}
 use Rattle.meaning.specs.Machines.{Meaning}
 use Rattle.meaning.specs.Calls.{Machine, History}

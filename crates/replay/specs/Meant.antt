@@ -45,7 +45,7 @@ beginning_at l c = if_below c (length l.areas) (Ok (beginning c))
 abbrev pub scanning_at : Lent → ℕ → ℕ → MeantCall
 scanning_at l c a = if_below c (length l.areas) (Ok (scanning c a))
 
--- ---- the machine of a search
+-- ---- the machine of a look for a breach
 
 -- under stuck layers for these signals, from below up
 abbrev pub layered : Machine → List ℕ → Machine
@@ -66,7 +66,7 @@ ground mean laws tables (Other m) = Ok (other (mean m) (laws m))
 abbrev pub machine : {M : Type 0} → (mean : M → Meaning) → ((m : M) → Lawful (mean m)) → ℕ → Pile M → Result Machine Answer
 machine mean laws tables p = under p.stuck.items (ground mean laws tables p.ground)
 
--- a search in areas of these lengths, whose walk area holds zeros
+-- looking in areas of these lengths, whose walk area holds zeros
 abbrev pub searching_with : ℕ → ℕ → ℕ → Result Machine Answer → MeantCall
 searching_with c pairs walk (Ok m) = Ok (searching c m pairs (replicate walk 0))
 searching_with c pairs walk (Err a) = Err a

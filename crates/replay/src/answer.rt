@@ -4,7 +4,7 @@ use meaning::refusals::{
     BeginningFault, FileFault, FillingFault, NamesFault, ScanningFault, SearchingFault, SheetFault,
 };
 
-// The answer of the call itself, and of a search also what its walk area holds then; or why no call was made: an object of that
+// The answer of the call itself, and of a look for a breach also what the walk area holds then; or why no call was made: an object of that
 // number is not there, or a machine has more than three stuck layers.
 #[derive(Drop)]
 pub enum Answer {

@@ -15,7 +15,8 @@ pub struct Pile<M> {
     pub stuck: Vec<u8>,
 }
 
-// Sheets, tables and charts go by their numbers, from 0. A search says how many entries its pair area and its walk area have.
+// Sheets, tables and charts go by their numbers, from 0. A look for a breach says how many entries its
+// pair area and its walk area have.
 #[derive(Drop)]
 pub enum Call<M> {
     Open {

@@ -3,8 +3,9 @@
 
 pub mod answer;
 pub mod call;
+mod find;
 mod look;
 pub mod make;
 pub mod replay;
-mod search;
 mod steps;
+mod text;

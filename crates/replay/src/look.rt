@@ -1,4 +1,4 @@
-// A search over a machine that is told as data: its ground, and the stuck layers on it.
+// A look for a breach over a machine that is told as data: its ground, and the stuck layers on it.
 ghost use Rattle.std.specs.Prelude.{◌≡◌, ℕ, List, IfOk, length};
 ghost use Rattle.meaning.specs.Calls.{History};
 ghost use Rattle.rules.specs.declared.sheet.Sheet.{Sheet as SheetIs};
@@ -18,7 +18,7 @@ use machines::table::Table;
 use pairs::pair::Pair;
 use std::alloc::{AllocError, Global};
 
-// Where and how a search looks: over which chart, and in areas of how many entries.
+// How to look for a breach: over which chart, and in areas of how many entries.
 #[derive(Clone, Copy)]
 pub(crate) struct Look<'a> {
     pub(crate) heap: Global,

@@ -6,7 +6,7 @@ ghost use Rattle.replay.specs.Replayed.{StepLed};
 
 use crate::answer::Answer;
 use crate::call::Call;
-use crate::search::{Wanted, search};
+use crate::find::{Wanted, find};
 use crate::steps;
 use charts::chart::Chart;
 use machines::machine::Machine;
@@ -49,7 +49,7 @@ pub fn make<M: Machine>(
                 pairs: *pairs,
                 walk: *walk,
             };
-            search(heap, charts, tables, &wanted)
+            find(heap, charts, tables, &wanted)
         }
     }
 }

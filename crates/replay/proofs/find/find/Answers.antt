@@ -1,7 +1,7 @@
 use Rattle.std.proofs.Common.{ℕ}
 use Rattle.replay.specs.Meant.{machine}
 use Rattle.replay.proofs.OneCall.{looked, if_ok_then}
-use Rattle.replay.proofs.search.search.Goals as goal
+use Rattle.replay.proofs.find.find.Goals as goal
 
 pub returns : goal.returns
 returns g c =

@@ -1,4 +1,4 @@
-// A search as a call of the list.
+// Looking for a breach as a call of the list.
 ghost use Rattle.std.specs.Prelude.{List, IfOk};
 ghost use Rattle.rules.specs.declared.sheet.Sheet.{Sheet as SheetIs};
 ghost use Rattle.replay.specs.Objects.{objects, lent};
@@ -13,7 +13,7 @@ use machines::machine::Machine;
 use machines::table::Table;
 use std::alloc::{AllocError, Global};
 
-// Which search: over which chart and machine, and in areas of how many entries.
+// Where to look: over which chart and machine, and in areas of how many entries.
 #[derive(Clone, Copy)]
 pub(crate) struct Wanted<'a, M> {
     pub(crate) chart: usize,
@@ -22,7 +22,7 @@ pub(crate) struct Wanted<'a, M> {
     pub(crate) walk: usize,
 }
 
-pub(crate) fn search<M: Machine>(
+pub(crate) fn find<M: Machine>(
     heap: Global,
     charts: &[Chart],
     tables: &[Table],

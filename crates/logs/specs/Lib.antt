@@ -1,0 +1,3 @@
+pub mod NoMachine
+pub mod Written
+pub mod Fresh
