@@ -1,3 +1,4 @@
-pub mod NoMachine
-pub mod Written
 pub mod Fresh
+pub mod NoMachine
+pub mod Replays
+pub mod Written

@@ -2,15 +2,19 @@
 use lines::{cut, read_number};
 use std::alloc::{AllocError, Global};
 
-// A number, and what follows the comma behind it.
-pub(crate) fn numbered(text: &[u8]) -> Option<(usize, &[u8])> {
-    let (number, rest) = cut(text, b',')?;
-    Some((read_number(number)? as usize, rest))
+// A number below 65,536.
+pub(crate) fn number(text: &[u8]) -> Option<usize> {
+    let number = read_number(text)?;
+    if number >= 65536 {
+        return None;
+    }
+    Some(number as usize)
 }
 
-// The last number of a line.
-pub(crate) fn last_number(text: &[u8]) -> Option<usize> {
-    Some(read_number(text)? as usize)
+// A number, and what follows the comma behind it.
+pub(crate) fn numbered(text: &[u8]) -> Option<(usize, &[u8])> {
+    let (first, rest) = cut(text, b',')?;
+    Some((number(first)?, rest))
 }
 
 // A number up to 255.

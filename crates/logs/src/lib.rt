@@ -3,9 +3,8 @@
 
 mod answers;
 mod entries;
-mod fresh;
 mod fields;
 mod machine;
-pub mod replay_log;
 mod reading;
+pub mod replay_log;
 mod writing;

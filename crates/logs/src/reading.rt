@@ -1,5 +1,5 @@
 // The call that a line of a log tells.
-use crate::fields::{byte, bytes, last_number, numbered};
+use crate::fields::{byte, bytes, number, numbered};
 use crate::machine::NoMachine;
 use lines::cut;
 use replay::call::{Call, Ground, Pile};
@@ -27,13 +27,13 @@ fn read_enter(heap: Global, text: &[u8]) -> Result<Option<Call<NoMachine>>, Allo
 fn read_fill(text: &[u8]) -> Option<Call<NoMachine>> {
     let (chart, rest) = numbered(text)?;
     let (sheet, rest) = numbered(rest)?;
-    let rule = last_number(rest)?;
+    let rule = number(rest)?;
     Some(Call::Fill { chart, sheet, rule })
 }
 
 // CHART
 fn read_begin(text: &[u8]) -> Option<Call<NoMachine>> {
-    let chart = last_number(text)?;
+    let chart = number(text)?;
     Some(Call::Begin { chart })
 }
 
@@ -46,14 +46,11 @@ fn read_scan(text: &[u8]) -> Option<Call<NoMachine>> {
 
 // `table,TABLE` or `round,LETTERS`
 fn read_ground(heap: Global, text: &[u8]) -> Result<Option<Ground<NoMachine>>, AllocError> {
-    let Some((kind, rest)) = cut(text, b',') else {
-        return Ok(None);
-    };
-    if kind == b"table" {
-        return Ok(last_number(rest).map(|table| Ground::Table(table)));
+    if let Some(text) = text.strip_prefix(b"table,") {
+        return Ok(number(text).map(|table| Ground::Table(table)));
     }
-    if kind == b"round" {
-        return Ok(bytes(heap, rest)?.map(|letters| Ground::Round(letters)));
+    if let Some(text) = text.strip_prefix(b"round,") {
+        return Ok(bytes(heap, text)?.map(|letters| Ground::Round(letters)));
     }
     Ok(None)
 }
@@ -98,41 +95,35 @@ fn read_find(heap: Global, text: &[u8]) -> Result<Option<Call<NoMachine>>, Alloc
 
 // A call on one line.
 pub(crate) fn read_call(heap: Global, line: &[u8]) -> Result<Option<Call<NoMachine>>, AllocError> {
-    let Some((word, text)) = cut(line, b',') else {
-        return Ok(None);
-    };
-    if word == b"open" {
+    if let Some(text) = line.strip_prefix(b"open,") {
         return read_open(heap, text);
     }
-    if word == b"enter" {
+    if let Some(text) = line.strip_prefix(b"enter,") {
         return read_enter(heap, text);
     }
-    if word == b"find" {
+    if let Some(text) = line.strip_prefix(b"find,") {
         return read_find(heap, text);
     }
-    Ok(read_chart_call(word, text))
+    Ok(read_chart_call(line))
 }
 
-fn read_chart_call(word: &[u8], text: &[u8]) -> Option<Call<NoMachine>> {
-    if word == b"fill" {
+fn read_chart_call(line: &[u8]) -> Option<Call<NoMachine>> {
+    if let Some(text) = line.strip_prefix(b"fill,") {
         return read_fill(text);
     }
-    if word == b"begin" {
+    if let Some(text) = line.strip_prefix(b"begin,") {
         return read_begin(text);
     }
-    if word == b"scan" {
+    if let Some(text) = line.strip_prefix(b"scan,") {
         return read_scan(text);
     }
     None
 }
 
-// SHEET,TABLE,LINES: so many lines follow.
+// `load,SHEET,TABLE,LINES`: so many lines follow.
 pub(crate) fn read_load(line: &[u8]) -> Option<(usize, usize, usize)> {
-    let (word, text) = cut(line, b',')?;
-    if word != b"load" {
-        return None;
-    }
+    let text = line.strip_prefix(b"load,")?;
     let (sheet, rest) = numbered(text)?;
     let (table, rest) = numbered(rest)?;
-    Some((sheet, table, last_number(rest)?))
+    Some((sheet, table, number(rest)?))
 }
