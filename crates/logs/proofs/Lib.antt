@@ -1,1 +1,4 @@
 pub mod NewObjects
+pub mod ReadBytes
+pub mod ReadLines
+pub mod ReadWords

@@ -1,117 +1,53 @@
 // The lines of a log, one after another.
+ghost use Rattle.std.specs.Prelude.{List, Option as Maybe, IfOk, [], ◌∷◌, ◌++◌};
+ghost use Rattle.logs.specs.Told.{Told, lines_told, call as call_of};
+ghost use Rattle.logs.specs.Replays.{HoldsLines};
+
 use crate::machine::NoMachine;
-use crate::reading::{read_call, read_load};
+use crate::reading::read_call;
+use lines::cut;
 use replay::call::Call;
 use std::alloc::{AllocError, Global};
 
-// A line of a log, from 1: the number of the call that stands there, or that the line is of no form.
-#[derive(Clone, Copy)]
-pub(crate) struct Entry {
-    pub(crate) line: usize,
-    pub(crate) call: Option<usize>,
-}
-
-// The calls of a log, and its entries in order: one for each call and for each line of no form.
+// The calls of a log, and for each line the number of its call.
 #[derive(Drop)]
 pub(crate) struct Log {
-    pub(crate) entries: Vec<Entry>,
+    pub(crate) numbers: Vec<Option<usize>>,
     pub(crate) calls: Vec<Call<NoMachine>>,
 }
 
-// A loading, of whose file so many lines are still to come.
-#[derive(Drop)]
-struct Load {
-    line: usize,
-    sheet: usize,
-    table: usize,
-    left: usize,
-    file: Vec<u8>,
-}
-
-// A log as far as it is read.
-#[derive(Drop)]
-struct Reader {
-    log: Log,
-    load: Option<Load>,
-}
-
 impl Log {
-    fn add(&mut self, line: usize, call: Option<Call<NoMachine>>) -> Result<(), AllocError> {
+    // Adds a line.
+    fn add(&mut self, heap: Global, line: &[u8]) -> Result<(), AllocError>
+        ensures { (ts : List (Maybe Told)) → HoldsLines ts self.old.numbers.items self.old.calls.items → IfOk result (λ _. HoldsLines (ts ++ (call_of line.now ∷ [])) self.new.numbers.items self.new.calls.items) }
+    {
         let number = self.calls.len();
-        let Some(call) = call else {
-            self.entries.push(Entry { line, call: None })?;
+        let Some(call) = read_call(heap, line)? else {
+            self.numbers.push(None)?;
             return Ok(());
         };
         self.calls.push(call)?;
-        let call = Some(number);
-        self.entries.push(Entry { line, call })?;
+        self.numbers.push(Some(number))?;
         Ok(())
     }
 }
 
-impl Reader {
-    // Adds the loading whose file is read.
-    fn add_load(&mut self, load: Load) -> Result<(), AllocError> {
-        let Load {
-            line,
-            sheet,
-            table,
-            left: _,
-            file,
-        } = load;
-        self.log.add(line, Some(Call::Load { sheet, table, file }))
-    }
-
-    // Takes a line of the file of a loading.
-    fn take_file_line(&mut self, load: Load, text: &[u8]) -> Result<(), AllocError> {
-        let mut load = load;
-        load.file.extend_from_slice(text)?;
-        load.left = load.left.saturating_sub(1);
-        if load.left == 0 {
-            return self.add_load(load);
-        }
-        self.load = Some(load);
-        Ok(())
-    }
-
-    // Takes a line with its LF.
-    fn take_line(&mut self, heap: Global, line: usize, text: &[u8]) -> Result<(), AllocError> {
-        if let Some(load) = self.load.take() {
-            return self.take_file_line(load, text);
-        }
-        let text = text.strip_suffix(b"\n").unwrap_or(text);
-        if let Some((sheet, table, left)) = read_load(text) {
-            let load = Load {
-                line,
-                sheet,
-                table,
-                left,
-                file: Vec::new(heap),
-            };
-            if left == 0 {
-                return self.add_load(load);
-            }
-            self.load = Some(load);
-            return Ok(());
-        }
-        let call = read_call(heap, text)?;
-        self.log.add(line, call)
-    }
-}
-
-// Reads a log. Where it ends within a file, that file is what is there.
-pub(crate) fn read_log(heap: Global, text: &[u8]) -> Result<Log, AllocError> {
-    let log = Log {
-        entries: Vec::new(heap),
+// Reads a log.
+pub(crate) fn read_log(heap: Global, text: &[u8]) -> Result<Log, AllocError>
+    ensures { IfOk result (λ l. HoldsLines (lines_told text.now) l.numbers.items l.calls.items) }
+{
+    let mut log = Log {
+        numbers: Vec::new(heap),
         calls: Vec::new(heap),
     };
-    let mut reader = Reader { log, load: None };
-    for (number, line) in text.split_inclusive(|b| *b == b'\n').enumerate() {
-        reader.take_line(heap, number + 1, line)?;
+    let mut rest = text;
+    while let Some((line, more)) = cut(rest, b'\n') {
+        log.add(heap, line)?;
+        rest = more;
     }
-    if let Some(load) = reader.load.take() {
-        reader.add_load(load)?;
+    if rest.is_empty() {
+        return Ok(log);
     }
-    let Reader { log, load: _ } = reader;
+    log.add(heap, rest)?;
     Ok(log)
 }

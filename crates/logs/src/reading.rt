@@ -1,12 +1,16 @@
 // The call that a line of a log tells.
-use crate::fields::{byte, bytes, number, numbered};
+ghost use Rattle.std.specs.Prelude.{◌≡◌, IfOk, option_map};
+ghost use Rattle.logs.specs.Told.{told, base, opening, entering, loading, filling, beginning, scanning, finding, ground, machine, chart_and_areas, chart_call, call};
+
+use crate::fields::{after, byte, bytes, number, numbered, split, unfold};
 use crate::machine::NoMachine;
-use lines::cut;
 use replay::call::{Call, Ground, Pile};
 use std::alloc::{AllocError, Global};
 
 // SHEET,NAMES
-fn read_open(heap: Global, text: &[u8]) -> Result<Option<Call<NoMachine>>, AllocError> {
+fn read_open(heap: Global, text: &[u8]) -> Result<Option<Call<NoMachine>>, AllocError>
+    ensures { IfOk result (λ o. option_map told o ≡ opening text.now) }
+{
     let Some((sheet, names)) = numbered(text) else {
         return Ok(None);
     };
@@ -15,7 +19,9 @@ fn read_open(heap: Global, text: &[u8]) -> Result<Option<Call<NoMachine>>, Alloc
 }
 
 // SHEET,RULE
-fn read_enter(heap: Global, text: &[u8]) -> Result<Option<Call<NoMachine>>, AllocError> {
+fn read_enter(heap: Global, text: &[u8]) -> Result<Option<Call<NoMachine>>, AllocError>
+    ensures { IfOk result (λ o. option_map told o ≡ entering text.now) }
+{
     let Some((sheet, rule)) = numbered(text) else {
         return Ok(None);
     };
@@ -23,8 +29,24 @@ fn read_enter(heap: Global, text: &[u8]) -> Result<Option<Call<NoMachine>>, Allo
     Ok(Some(Call::Enter { sheet, rule }))
 }
 
+// SHEET,TABLE,FILE
+fn read_load(heap: Global, text: &[u8]) -> Result<Option<Call<NoMachine>>, AllocError>
+    ensures { IfOk result (λ o. option_map told o ≡ loading text.now) }
+{
+    let Some((sheet, rest)) = numbered(text) else {
+        return Ok(None);
+    };
+    let Some((table, file)) = numbered(rest) else {
+        return Ok(None);
+    };
+    let file = unfold(heap, file)?;
+    Ok(Some(Call::Load { sheet, table, file }))
+}
+
 // CHART,SHEET,RULE
-fn read_fill(text: &[u8]) -> Option<Call<NoMachine>> {
+fn read_fill(text: &[u8]) -> Option<Call<NoMachine>>
+    ensures { option_map told result ≡ filling text.now }
+{
     let (chart, rest) = numbered(text)?;
     let (sheet, rest) = numbered(rest)?;
     let rule = number(rest)?;
@@ -32,32 +54,40 @@ fn read_fill(text: &[u8]) -> Option<Call<NoMachine>> {
 }
 
 // CHART
-fn read_begin(text: &[u8]) -> Option<Call<NoMachine>> {
+fn read_begin(text: &[u8]) -> Option<Call<NoMachine>>
+    ensures { option_map told result ≡ beginning text.now }
+{
     let chart = number(text)?;
     Some(Call::Begin { chart })
 }
 
 // CHART,LETTER
-fn read_scan(text: &[u8]) -> Option<Call<NoMachine>> {
+fn read_scan(text: &[u8]) -> Option<Call<NoMachine>>
+    ensures { option_map told result ≡ scanning text.now }
+{
     let (chart, rest) = numbered(text)?;
     let letter = byte(rest)?;
     Some(Call::Scan { chart, letter })
 }
 
 // `table,TABLE` or `round,LETTERS`
-fn read_ground(heap: Global, text: &[u8]) -> Result<Option<Ground<NoMachine>>, AllocError> {
-    if let Some(text) = text.strip_prefix(b"table,") {
-        return Ok(number(text).map(|table| Ground::Table(table)));
+fn read_ground(heap: Global, text: &[u8]) -> Result<Option<Ground<NoMachine>>, AllocError>
+    ensures { IfOk result (λ o. option_map base o ≡ ground text.now) }
+{
+    if let Some(rest) = after(text, b"table,") {
+        return Ok(number(rest).map(|table| Ground::Table(table)));
     }
-    if let Some(text) = text.strip_prefix(b"round,") {
-        return Ok(bytes(heap, text)?.map(|letters| Ground::Round(letters)));
-    }
-    Ok(None)
+    let Some(rest) = after(text, b"round,") else {
+        return Ok(None);
+    };
+    Ok(bytes(heap, rest)?.map(|letters| Ground::Round(letters)))
 }
 
 // SIGNALS and a ground
-fn read_machine(heap: Global, text: &[u8]) -> Result<Option<Pile<NoMachine>>, AllocError> {
-    let Some((signals, rest)) = cut(text, b',') else {
+fn read_machine(heap: Global, text: &[u8]) -> Result<Option<Pile<NoMachine>>, AllocError>
+    ensures { IfOk result (λ o. option_map (λ p. (p.stuck.items, base p.ground)) o ≡ machine text.now) }
+{
+    let Some((signals, rest)) = split(text, b',') else {
         return Ok(None);
     };
     let Some(stuck) = bytes(heap, signals)? else {
@@ -69,8 +99,10 @@ fn read_machine(heap: Global, text: &[u8]) -> Result<Option<Pile<NoMachine>>, Al
     Ok(Some(Pile { ground, stuck }))
 }
 
-// The areas of a look for a breach: CHART,PAIRS,WALK, and what follows.
-fn read_areas(text: &[u8]) -> Option<(usize, usize, usize, &[u8])> {
+// CHART,PAIRS,WALK, and what follows.
+fn read_areas(text: &[u8]) -> Option<(usize, usize, usize, &[u8])>
+    ensures { option_map (λ a. (a.0, a.1, a.2, a.3.now)) result ≡ chart_and_areas text.now }
+{
     let (chart, rest) = numbered(text)?;
     let (pairs, rest) = numbered(rest)?;
     let (walk, rest) = numbered(rest)?;
@@ -78,7 +110,9 @@ fn read_areas(text: &[u8]) -> Option<(usize, usize, usize, &[u8])> {
 }
 
 // CHART,PAIRS,WALK,SIGNALS and a ground
-fn read_find(heap: Global, text: &[u8]) -> Result<Option<Call<NoMachine>>, AllocError> {
+fn read_find(heap: Global, text: &[u8]) -> Result<Option<Call<NoMachine>>, AllocError>
+    ensures { IfOk result (λ o. option_map told o ≡ finding text.now) }
+{
     let Some((chart, pairs, walk, rest)) = read_areas(text) else {
         return Ok(None);
     };
@@ -93,37 +127,34 @@ fn read_find(heap: Global, text: &[u8]) -> Result<Option<Call<NoMachine>>, Alloc
     }))
 }
 
-// A call on one line.
-pub(crate) fn read_call(heap: Global, line: &[u8]) -> Result<Option<Call<NoMachine>>, AllocError> {
-    if let Some(text) = line.strip_prefix(b"open,") {
-        return read_open(heap, text);
+// A call on a chart alone, or on a chart and a sheet.
+fn read_chart_call(line: &[u8]) -> Option<Call<NoMachine>>
+    ensures { option_map told result ≡ chart_call line.now }
+{
+    if let Some(rest) = after(line, b"fill,") {
+        return read_fill(rest);
     }
-    if let Some(text) = line.strip_prefix(b"enter,") {
-        return read_enter(heap, text);
+    if let Some(rest) = after(line, b"begin,") {
+        return read_begin(rest);
     }
-    if let Some(text) = line.strip_prefix(b"find,") {
-        return read_find(heap, text);
+    read_scan(after(line, b"scan,")?)
+}
+
+// The call of a line.
+pub(crate) fn read_call(heap: Global, line: &[u8]) -> Result<Option<Call<NoMachine>>, AllocError>
+    ensures { IfOk result (λ o. option_map told o ≡ call line.now) }
+{
+    if let Some(rest) = after(line, b"open,") {
+        return read_open(heap, rest);
+    }
+    if let Some(rest) = after(line, b"enter,") {
+        return read_enter(heap, rest);
+    }
+    if let Some(rest) = after(line, b"load,") {
+        return read_load(heap, rest);
+    }
+    if let Some(rest) = after(line, b"find,") {
+        return read_find(heap, rest);
     }
     Ok(read_chart_call(line))
-}
-
-fn read_chart_call(line: &[u8]) -> Option<Call<NoMachine>> {
-    if let Some(text) = line.strip_prefix(b"fill,") {
-        return read_fill(text);
-    }
-    if let Some(text) = line.strip_prefix(b"begin,") {
-        return read_begin(text);
-    }
-    if let Some(text) = line.strip_prefix(b"scan,") {
-        return read_scan(text);
-    }
-    None
-}
-
-// `load,SHEET,TABLE,LINES`: so many lines follow.
-pub(crate) fn read_load(line: &[u8]) -> Option<(usize, usize, usize)> {
-    let text = line.strip_prefix(b"load,")?;
-    let (sheet, rest) = numbered(text)?;
-    let (table, rest) = numbered(rest)?;
-    Some((sheet, table, number(rest)?))
 }
