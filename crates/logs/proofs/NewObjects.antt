@@ -1,6 +1,5 @@
 -- New objects are as the empty history says, and have the rooms that are promised. Assumes nothing.
-use Rattle.std.proofs.Common.{◌≡◌, ℕ, zero, suc, List, [], ◌∷◌, ◌++◌, map, length, Some, None, Ok, Err, Result, IfOk, MatchResult, slice_get, refl, sym, ap, subst, ◌∙◌}
-use Rattle.meaning.specs.Charts.{Areas}
+use Rattle.std.proofs.Common.{◌≡◌, ℕ, zero, suc, List, [], ◌∷◌, ◌++◌, length, Some, None, Ok, Err, Result, IfOk, MatchResult, slice_get, refl, ap, subst, ◌∙◌}
 use Rattle.meaning.specs.Files.{Rooms}
 use Rattle.meaning.specs.Kinds.{no_lines}
 use Rattle.meaning.specs.Printed.{table_rooms, chart_areas}
@@ -10,13 +9,13 @@ use Rattle.meaning.specs.Histories.{filled_rule, watch}
 use Rattle.rules.specs.declared.sheet.Sheet.{Sheet}
 use Rattle.rules.specs.Led.{SheetLed}
 use Rattle.machines.specs.declared.table.Table.{Table}
-use Rattle.machines.specs.Held.{held_lines, rooms_of, rooms_in}
+use Rattle.machines.specs.Held.{held_lines, rooms_of}
 use Rattle.charts.specs.declared.chart.Chart.{Chart}
 use Rattle.charts.specs.Fills.{areas}
 use Rattle.charts.specs.Led.{ChartLed}
 use Rattle.replay.specs.declared.call.Call.{Call}
 use Rattle.replay.specs.declared.answer.Answer.{Answer}
-use Rattle.replay.specs.Objects.{Objects, objects, ObjectsLed, Lent, lent}
+use Rattle.replay.specs.Objects.{Objects, objects, ObjectsLed}
 use Rattle.replay.specs.Replayed.{RightAnswers, Replayed}
 use Rattle.logs.specs.Fresh.{AllBlank, AllNew, with_two_sheets, with_tables, new_objects}
 

@@ -1,7 +1,7 @@
 -- Bytes that are read one after another. Assumes nothing.
-use Rattle.std.proofs.Common.{◌≡◌, ℕ, List, [], ◌∷◌, ◌++◌, cond, true, false, Bool, Some, None, Option, refl, sym, ap, subst, ◌∙◌, append_assoc, length, ◌==◌}
+use Rattle.std.proofs.Common.{◌≡◌, ℕ, List, [], ◌∷◌, ◌++◌, false, Some, None, Option, refl, sym, ap, subst, ◌∙◌, append_assoc, length, ◌==◌}
 use Rattle.std.specs.Option.{option_map, option_and_then}
-use Rattle.meaning.specs.Bytes.{Text, is_empty, parted}
+use Rattle.meaning.specs.Bytes.{Text, parted}
 use Rattle.logs.specs.Told.{byte, bytes_in, bytes}
 
 -- xs are read, and the rest is still to come

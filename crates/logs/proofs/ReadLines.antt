@@ -2,7 +2,6 @@
 use Rattle.std.proofs.Common.{◌≡◌, ℕ, ◌+◌, List, [], ◌∷◌, ◌++◌, map, length, cond, true, false, Some, None, Option, refl, sym, ap, subst, ◌∙◌, append_assoc, append-nil, ◌==◌, arith}
 use Rattle.std.proofs.lemmas.Bool.{eqb-true}
 use Rattle.std.proofs.lemmas.List.{length-map}
-use Rattle.std.specs.Option.{option_map}
 use Rattle.meaning.specs.Bytes.{Text, is_empty, parted}
 use Rattle.replay.specs.declared.call.Call.{Call}
 use Rattle.logs.specs.declared.machine.NoMachine.{NoMachine}
@@ -65,10 +64,10 @@ no_lines_read log ks cs i j = record { before = []; parts = refl; held = record 
 pub line_read : (log rest line more : Text) (ks ks' : List (Option ℕ)) (cs cs' : List (Call NoMachine)) (r : ReadLines log rest ks cs)
     → parted 10 rest ≡ line ∷ parted 10 more → HoldsLines (map call r.before ++ (call line ∷ [])) ks' cs' → ReadLines log more ks' cs'
 line_read log rest line more ks ks' cs cs' r e h = record {
-      before = r.before ++ (line ∷ []);
-      parts = r.parts ∙ ap (λ ps. r.before ++ ps) e ∙ sym (append_assoc r.before (line ∷ []) (parted 10 more));
-      held = subst (λ ts. HoldsLines ts ks' cs') (sym (map_more call r.before line)) h;
-    }
+  before = r.before ++ (line ∷ []);
+  parts = r.parts ∙ ap (λ ps. r.before ++ ps) e ∙ sym (append_assoc r.before (line ∷ []) (parted 10 more));
+  held = subst (λ ts. HoldsLines ts ks' cs') (sym (map_more call r.before line)) h;
+}
 
 -- all lines, with the last one
 whole_last : (ps : List Text) (p : Text) → whole (ps ++ (p ∷ [])) ≡ ps ++ cond (is_empty p) [] (p ∷ [])

@@ -1,5 +1,5 @@
 -- What follows a word. Assumes nothing.
-use Rattle.std.proofs.Common.{◌≡◌, ℕ, List, [], ◌∷◌, ◌++◌, cond, eqb, true, false, Some, None, Option, inl, inr, refl, sym, ap, ◌∙◌, MatchOption, ◌≢◌}
+use Rattle.std.proofs.Common.{◌≡◌, [], ◌∷◌, ◌++◌, eqb, Some, None, Option, inl, inr, refl, sym, ap, ◌∙◌, MatchOption, ◌≢◌}
 use Rattle.std.proofs.lemmas.Bool.{cond-true, cond-false, eq-eqb}
 use Rattle.std.proofs.lemmas.Bool.Decides.{eqb_tells}
 use Rattle.std.specs.Borrow.{Bor}

@@ -1,5 +1,5 @@
 -- The call that a line of a log tells. Assumes nothing.
-use Rattle.std.specs.Prelude.{ℕ, ◌+◌, cond, List, [], ◌∷◌, map, take, drop, Some, None, Option, ◌==◌, nat_lt, nat_le, codes, option_map, option_and_then, position}
+use Rattle.std.specs.Prelude.{ℕ, ◌+◌, cond, List, [], ◌∷◌, map, take, drop, Some, None, Option, ◌==◌, nat_lt, codes, option_map, option_and_then, position}
 use Rattle.meaning.specs.Bytes.{Text, is_empty, parted, after, number}
 use Rattle.replay.specs.declared.call.Ground.{Ground}
 use Rattle.replay.specs.declared.call.Ground.TheVariants.{Table, Round, Other}
@@ -88,7 +88,6 @@ beginning t = option_map begins (small t)
 
 abbrev pub scanning : Text → Option Told
 scanning t = option_and_then (λ (p : ℕ × Text). option_map (λ (a : ℕ). scans p.0 a) (byte p.1)) (numbered t)
-
 
 abbrev pub table_ground : Text → Option Base
 table_ground t = option_map on_table (small t)

@@ -1,10 +1,6 @@
 // A look for a breach over a machine that is told as data: its ground, and the stuck layers on it.
-ghost use Rattle.std.specs.Prelude.{◌≡◌, ℕ, List, IfOk, length};
-ghost use Rattle.meaning.specs.Calls.{History};
-ghost use Rattle.rules.specs.declared.sheet.Sheet.{Sheet as SheetIs};
-ghost use Rattle.replay.specs.Objects.{objects, lent};
-ghost use Rattle.replay.specs.Meant.{machine, searching_at};
-ghost use Rattle.replay.specs.Replayed.{StepLed};
+ghost use Rattle.std.specs.Prelude.{IfOk, length};
+ghost use Rattle.replay.specs.Meant.{machine};
 ghost use Rattle.replay.specs.Looks.{Looks, LooksUnder, LooksOn};
 
 use crate::answer::Answer;

@@ -20,4 +20,4 @@ returns-in_default-byte-2 c =
 pub returns : goal.returns
 returns c =
     sym (bytes_filled c.args.text.now c.if-is_empty.ensures
-      ∙ bytes_last _ c.loop-part.numbers.items _ c.loop-part.rest.now c.in-Some-byte-2.number c.loop-part.invariant c.in_default.ensures c.in-Some-byte-2.ensures c.in_ok-push-2.ensures.items)
+    ∙ bytes_last _ c.loop-part.numbers.items _ c.loop-part.rest.now c.in-Some-byte-2.number c.loop-part.invariant c.in_default.ensures c.in-Some-byte-2.ensures c.in_ok-push-2.ensures.items)

@@ -1,5 +1,4 @@
-use Rattle.std.proofs.Common.{◌≡◌, ◌++◌, length, List, ℕ}
-use Rattle.std.specs.Option.{option_map}
+use Rattle.std.proofs.Common.{length}
 use Rattle.meaning.specs.Bytes.{parted}
 use Rattle.logs.specs.Told.{bytes_in}
 use Rattle.logs.proofs.ReadBytes.{ReadSoFar}

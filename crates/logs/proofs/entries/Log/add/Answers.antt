@@ -1,6 +1,6 @@
-use Rattle.std.proofs.Common.{List, Option, ◌∙◌, ap, sym, arith}
+use Rattle.std.proofs.Common.{◌∙◌, ap, sym, arith}
 use Rattle.std.specs.Option.{option_map}
-use Rattle.logs.specs.Told.{Told, told}
+use Rattle.logs.specs.Told.{told}
 use Rattle.logs.proofs.ReadLines.{no_call_held, call_held}
 use Rattle.logs.proofs.entries.Log.add.Goals as goal
 
