@@ -9,6 +9,8 @@ mod charts_and_watches;
 #[cfg(test)]
 mod fixed_lists;
 #[cfg(test)]
+mod lists_of_calls;
+#[cfg(test)]
 mod machines_and_walks;
 #[cfg(test)]
 mod ranges;
