@@ -1,32 +1,34 @@
 // The call that a line of a log tells.
 ghost use Rattle.std.specs.Prelude.{◌≡◌, IfOk, option_map};
-ghost use Rattle.logs.specs.Told.{told, base, opening, entering, loading, filling, beginning, scanning, finding, ground, machine, chart_and_areas, chart_call, call};
+ghost use Rattle.logs.specs.Told.{told, base, numbered as numbered_of, opening, entering, loading, filling, beginning, scanning, finding, ground, machine, chart_and_areas, chart_call, call};
 
 use crate::fields::{after, byte, bytes, number, numbered, split, unfold};
 use crate::machine::NoMachine;
 use replay::call::{Call, Ground, Pile};
 use std::alloc::{AllocError, Global};
 
+// A number, and the text behind its comma.
+fn numbered_text(heap: Global, text: &[u8]) -> Result<Option<(usize, Vec<u8>)>, AllocError>
+    ensures { IfOk result (λ o. option_map (λ p. (p.0, p.1.items)) o ≡ numbered_of text.now) }
+{
+    let Some((number, rest)) = numbered(text) else {
+        return Ok(None);
+    };
+    Ok(Some((number, rest.to_vec(heap)?)))
+}
+
 // SHEET,NAMES
 fn read_open(heap: Global, text: &[u8]) -> Result<Option<Call<NoMachine>>, AllocError>
     ensures { IfOk result (λ o. option_map told o ≡ opening text.now) }
 {
-    let Some((sheet, names)) = numbered(text) else {
-        return Ok(None);
-    };
-    let names = names.to_vec(heap)?;
-    Ok(Some(Call::Open { sheet, names }))
+    Ok(numbered_text(heap, text)?.map(|(sheet, names)| Call::Open { sheet, names }))
 }
 
 // SHEET,RULE
 fn read_enter(heap: Global, text: &[u8]) -> Result<Option<Call<NoMachine>>, AllocError>
     ensures { IfOk result (λ o. option_map told o ≡ entering text.now) }
 {
-    let Some((sheet, rule)) = numbered(text) else {
-        return Ok(None);
-    };
-    let rule = rule.to_vec(heap)?;
-    Ok(Some(Call::Enter { sheet, rule }))
+    Ok(numbered_text(heap, text)?.map(|(sheet, rule)| Call::Enter { sheet, rule }))
 }
 
 // SHEET,TABLE,FILE

@@ -19,6 +19,15 @@ answer_right : (h : History) (c : MeantCall) (a : Answer) → RightAnswer h c a 
 answer_right h (Ok c) a right all = given_right h c (given c a) right all
 answer_right h (Err why) a right all = all
 
+-- right answers to a list of calls leave a history of right answers
+pub answers_right : {M : Type 0} (mean : M → Meaning) (laws : (m : M) → Lawful (mean m)) (l : Lent) (cs : List (Call M)) (xs : List Answer) (h : History)
+    → RightAnswers mean laws l h cs xs → AllRight h → AllRight (history mean laws l cs xs h)
+answers_right mean laws l [] [] h right all = all
+answers_right mean laws l [] (x ∷ xs) h right all = absurd right
+answers_right mean laws l (c ∷ cs) [] h right all = absurd right
+answers_right mean laws l (c ∷ cs) (x ∷ xs) h right all =
+    answers_right mean laws l cs xs (with_answer (meant mean laws l c) x h) right.1 (answer_right h (meant mean laws l c) x right.0 all)
+
 history_more : {M : Type 0} (mean : M → Meaning) (laws : (m : M) → Lawful (mean m)) (l : Lent) (cs : List (Call M)) (xs : List Answer) (c : Call M) (a : Answer) (h : History)
     → RightAnswers mean laws l h cs xs
     → history mean laws l (cs ++ (c ∷ [])) (xs ++ (a ∷ [])) h ≡ with_answer (meant mean laws l c) a (history mean laws l cs xs h)
