@@ -11,6 +11,8 @@ mod files;
 #[cfg(test)]
 mod fixed_lists;
 #[cfg(test)]
+mod lists_of_calls;
+#[cfg(test)]
 mod machines_and_walks;
 #[cfg(test)]
 mod ranges;

@@ -1,0 +1,5 @@
+pub mod NewObjects
+pub mod PlayedBack
+pub mod ReadBytes
+pub mod ReadLines
+pub mod ReadWords

@@ -1,0 +1,5 @@
+pub mod Fresh
+pub mod NoMachine
+pub mod Replays
+pub mod Told
+pub mod Written

@@ -1,0 +1,72 @@
+// Calls on new objects, and their answers.
+ghost use Rattle.std.specs.Prelude.{[], IfOk};
+ghost use Rattle.replay.specs.Replayed.{RightAnswers};
+ghost use Rattle.logs.specs.Fresh.{AllBlank, AllNew, with_two_sheets, with_tables, new_objects};
+
+use charts::chart::Chart;
+use machines::machine::Machine;
+use machines::records::{State, Step};
+use machines::table::Table;
+use replay::answer::Answer;
+use replay::call::Call;
+use replay::replay::replay;
+use rules::sheet::Sheet;
+use std::alloc::{AllocError, Global};
+
+// On two new sheets, and these tables and charts.
+fn answer_with<M: Machine>(
+    heap: Global,
+    calls: &[Call<M>],
+    tables: &mut [Table],
+    charts: &mut [Chart],
+) -> Result<Vec<Answer>, AllocError>
+    ensures { AllBlank tables.old → AllNew charts.old → IfOk result (λ v. RightAnswers M.Machine.meaning M.Machine.lawful (with_two_sheets tables.old charts.old) [] calls.now v.items) }
+{
+    let mut sheets = [Sheet::new(), Sheet::new()];
+    replay(heap, calls, &mut sheets, tables, charts)
+}
+
+// On these tables, and two new sheets and charts.
+fn answer_on<M: Machine>(
+    heap: Global,
+    calls: &[Call<M>],
+    tables: &mut [Table],
+) -> Result<Vec<Answer>, AllocError>
+    ensures { AllBlank tables.old → IfOk result (λ v. RightAnswers M.Machine.meaning M.Machine.lawful (with_tables tables.old) [] calls.now v.items) }
+{
+    let mut labels = vec![in heap; 0; 512]?;
+    let mut standings = vec![in heap; [0; 8]; 32]?;
+    let mut next = vec![in heap; 0; 8192]?;
+    let mut more_labels = vec![in heap; 0; 512]?;
+    let mut more_standings = vec![in heap; [0; 8]; 32]?;
+    let mut more_next = vec![in heap; 0; 8192]?;
+    let mut charts = Vec::new(heap);
+    charts.push(Chart::new(
+        labels.as_mut_slice(),
+        standings.as_mut_slice(),
+        next.as_mut_slice(),
+    ))?;
+    charts.push(Chart::new(
+        more_labels.as_mut_slice(),
+        more_standings.as_mut_slice(),
+        more_next.as_mut_slice(),
+    ))?;
+    answer_with(heap, calls, tables, charts.as_mut_slice())
+}
+
+// On two new sheets, tables and charts.
+pub(crate) fn answer_all<M: Machine>(
+    heap: Global,
+    calls: &[Call<M>],
+) -> Result<Vec<Answer>, AllocError>
+    ensures { IfOk result (λ v. RightAnswers M.Machine.meaning M.Machine.lawful new_objects [] calls.now v.items) }
+{
+    let mut states = vec![in heap; State::BLANK; 256]?;
+    let mut steps = vec![in heap; Step::BLANK; 1024]?;
+    let mut more_states = vec![in heap; State::BLANK; 256]?;
+    let mut more_steps = vec![in heap; Step::BLANK; 1024]?;
+    let mut tables = Vec::new(heap);
+    tables.push(Table::new(states.as_mut_slice(), steps.as_mut_slice()))?;
+    tables.push(Table::new(more_states.as_mut_slice(), more_steps.as_mut_slice()))?;
+    answer_on(heap, calls, tables.as_mut_slice())
+}

@@ -1,0 +1,4 @@
+pub mod Lists
+pub mod ListOfCalls
+pub mod OneCall
+pub mod Stay

@@ -1,0 +1,5 @@
+pub mod AnswerText
+pub mod Looks
+pub mod Meant
+pub mod Objects
+pub mod Replayed

@@ -1,0 +1,37 @@
+-- Sheets, tables and charts as a list of calls left them. Assumes nothing.
+use Rattle.std.specs.Prelude.{◌≡◌, ℕ, List, map, length, Some, slice_get}
+use Rattle.meaning.specs.Charts.{Areas}
+use Rattle.meaning.specs.Files.{Rooms}
+use Rattle.meaning.specs.Calls.{History}
+use Rattle.rules.specs.declared.sheet.Sheet.{Sheet}
+use Rattle.rules.specs.Led.{SheetLed}
+use Rattle.machines.specs.declared.table.Table.{Table}
+use Rattle.machines.specs.Held.{rooms_of}
+use Rattle.charts.specs.declared.chart.Chart.{Chart}
+use Rattle.charts.specs.Fills.{areas}
+use Rattle.charts.specs.Led.{ChartLed}
+use Rattle.loading.specs.Led.{TableLed}
+
+-- the objects, each kind numbered from 0
+pub record Objects : Type 0 where
+  pub sheets : List Sheet
+  pub tables : List Table
+  pub charts : List Chart
+
+abbrev pub objects : List Sheet → List Table → List Chart → Objects
+objects ss ts cs = record { sheets = ss; tables = ts; charts = cs }
+
+-- each object is as the history says of its number
+pub record ObjectsLed (h : History) (o : Objects) : Type 0 where
+  pub sheets : (n : ℕ) (s : Sheet) → slice_get o.sheets n ≡ Some s → SheetLed h n s
+  pub tables : (n : ℕ) (t : Table) → slice_get o.tables n ≡ Some t → TableLed h n t
+  pub charts : (n : ℕ) (c : Chart) → slice_get o.charts n ≡ Some c → ChartLed h n c
+
+-- what no call changes: how many sheets there are, the rooms of each table and the areas of each chart
+pub record Lent : Type 0 where
+  pub sheets : ℕ
+  pub rooms : List Rooms
+  pub areas : List Areas
+
+abbrev pub lent : Objects → Lent
+lent o = record { sheets = length o.sheets; rooms = map rooms_of o.tables; areas = map areas o.charts }

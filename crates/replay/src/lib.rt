@@ -1,0 +1,11 @@
+// Lists of calls on sheets, tables and charts, made one after another. Every answer is right after the calls before it.
+#![tactic(auto)]
+
+pub mod answer;
+pub mod call;
+mod find;
+mod look;
+pub mod make;
+pub mod replay;
+mod steps;
+mod text;
