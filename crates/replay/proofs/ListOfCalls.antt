@@ -45,7 +45,7 @@ right_more mean laws l (b ∷ cs) [] c a h right one = absurd right
 right_more mean laws l (b ∷ cs) (x ∷ xs) c a h right one = (right.0, right_more mean laws l cs xs c a (with_answer (meant mean laws l b) x h) right.1 one)
 
 pub nothing_replayed : {M : Type 0} (mean : M → Meaning) (laws : (m : M) → Lawful (mean m)) (o : Objects) → Replayed mean laws [] [] o o
-nothing_replayed mean laws o = record { same = refl; right = λ h led. tt; all_right = λ h led all. all; led = λ h led. led }
+nothing_replayed mean laws o = record { same = refl; on_loan = refl; right = λ h led. tt; all_right = λ h led all. all; led = λ h led. led }
 
 pub replayed_more : {M : Type 0} (mean : M → Meaning) (laws : (m : M) → Lawful (mean m)) (cs : List (Call M)) (xs : List Answer) (c : Call M) (a : Answer) (o o' o'' : Objects)
     → Replayed mean laws cs xs o o' → StepLed (meant mean laws (lent o') c) a o' o'' → Replayed mean laws (cs ++ (c ∷ [])) (xs ++ (a ∷ [])) o o''
@@ -56,6 +56,7 @@ replayed_more mean laws cs xs c a o o' o'' p q =
     let one = λ (h : History) (led : ObjectsLed h o). step.right (history mean laws l cs xs h) (p.led h led) in
     record {
       same = step.same ∙ p.same;
+      on_loan = step.on_loan ∙ p.on_loan;
       right = λ h led. right_more mean laws l cs xs c a h (p.right h led) (one h led);
       all_right = λ h led all. subst (λ k. AllRight k) (sym (more h led)) (answer_right (history mean laws l cs xs h) (meant mean laws l c) a (one h led) (p.all_right h led all));
       led = λ h led. subst (λ k. ObjectsLed k o'') (sym (more h led)) (step.led (history mean laws l cs xs h) (p.led h led));

@@ -18,12 +18,12 @@ use Rattle.machines.specs.declared.table.Table.{Table}
 use Rattle.machines.specs.Held.{rooms_of, SameAreas as SameRooms}
 use Rattle.charts.specs.declared.chart.Chart.{Chart}
 use Rattle.charts.specs.Fills.{areas}
-use Rattle.charts.specs.Kept.{SameAreas}
+use Rattle.charts.specs.Kept.{SameAreas, OnLoan}
 use Rattle.charts.specs.Led.{ChartLed, Answered}
 use Rattle.loading.specs.Led.{TableLed, LedByLoading}
 use Rattle.replay.specs.declared.answer.Answer.{Answer}
 use Rattle.replay.specs.declared.answer.Answer.TheVariants.{Opened, Entered, Loaded, Filled, Begun, Scanned, NoSuchObject}
-use Rattle.replay.specs.Objects.{Objects, objects, ObjectsLed, lent}
+use Rattle.replay.specs.Objects.{Objects, objects, ObjectsLed, lent, table_loans, chart_loans}
 use Rattle.replay.specs.Meant.{MeantCall, given, searching_with, if_below, if_there, opening_at, entering_at, loading_at, filling_at, beginning_at, scanning_at}
 use Rattle.replay.specs.Looks.{LooksOn}
 use Rattle.replay.specs.Replayed.{RightGiven, with_given, StepLed}
@@ -100,6 +100,7 @@ opened ss n d s' t r l f ts cs =
     let g : slice_get ss n ≡ Some s = get_at ss n d l in
     subst (λ (c : MeantCall). StepLed c (Opened r) o o') (sym (below_made n (length ss) (Ok (opening n t)) l)) (record {
       same = ap (λ k. record { sheets = k; rooms = map rooms_of ts; areas = map areas cs }) (length-set ss n s');
+      on_loan = refl;
       right = λ h led. (f h n (led.sheets n s g)).0;
       led = λ h led. let v : Event = record { call = opening n t; answer = r } in record {
         sheets = sheets_set h v ss n s' refl (f h n (led.sheets n s g)).1 led.sheets;
@@ -118,6 +119,7 @@ entered ss n d s' t r l f ts cs =
     let g : slice_get ss n ≡ Some s = get_at ss n d l in
     subst (λ (c : MeantCall). StepLed c (Entered r) o o') (sym (below_made n (length ss) (Ok (entering n t)) l)) (record {
       same = ap (λ k. record { sheets = k; rooms = map rooms_of ts; areas = map areas cs }) (length-set ss n s');
+      on_loan = refl;
       right = λ h led. (f h n (led.sheets n s g)).0;
       led = λ h led. let v : Event = record { call = entering n t; answer = r } in record {
         sheets = sheets_set h v ss n s' refl (f h n (led.sheets n s g)).1 led.sheets;
@@ -125,6 +127,9 @@ entered ss n d s' t r l f ts cs =
         charts = charts_stay h v cs none led.charts;
       };
     })
+
+tables_on_loan : (t t' : Table) → SameRooms t t' → table_loans t' ≡ table_loans t
+tables_on_loan t t' s = simp (s.1, s.2) refl
 
 pub loaded : (ss : List Sheet) (ts : List Table) (n y : ℕ) (d s' : Sheet) (e t' : Table) (file : Text) (r : Result (Unit {0}) FileFault)
     → n < length ss → y < length ts → LedByLoading (rooms_of (slice_index_or ts y e)) file r s' t' → SameRooms (slice_index_or ts y e) t' → (cs : List Chart)
@@ -139,6 +144,7 @@ loaded ss ts n y d s' e t' file r l k f same cs =
     subst (λ (c : MeantCall). StepLed c (Loaded r) o o') (sym made) (record {
       same = ap (λ k. record { sheets = k; rooms = map rooms_of (slice_set ts y t'); areas = map areas cs }) (length-set ss n s')
           ∙ ap (λ rs. record { sheets = length ss; rooms = rs; areas = map areas cs }) (map_after_set rooms_of ts y t t' g same.0);
+      on_loan = ap (λ k. record { tables = k; charts = map chart_loans cs }) (map_after_set table_loans ts y t t' g (tables_on_loan t t' same));
       right = λ h led. (f h n y).0;
       led = λ h led. let v : Event = record { call = loading n y (rooms_of t) file; answer = r } in record {
         sheets = sheets_set h v ss n s' refl (f h n y).1 led.sheets;
@@ -149,21 +155,28 @@ loaded ss ts n y d s' e t' file r l k f same cs =
 
 -- ---- the calls on a chart
 
+filled_on_loan : (d d' : Chart) → OnLoan d.labels d.standings d.next d' → chart_loans d' ≡ chart_loans d
+filled_on_loan d d' s = simp (s.0, s.1, s.2) refl
+
+same_on_loan : (d d' : Chart) → SameAreas d d' → chart_loans d' ≡ chart_loans d
+same_on_loan d d' s = simp (s.0, s.1, s.2) refl
+
 -- a call that is made on chart n alone
 on_chart : (c : Call) (x : Given c) (a : Answer) (ss : List Sheet) (ts : List Table) (cs : List Chart) (n : ℕ) (d d' : Chart)
-    → given c a ≡ Some x → sheet_of c ≡ None → table_of c ≡ None → chart_of c ≡ Some n → slice_get cs n ≡ Some d → areas d' ≡ areas d
+    → given c a ≡ Some x → sheet_of c ≡ None → table_of c ≡ None → chart_of c ≡ Some n → slice_get cs n ≡ Some d → areas d' ≡ areas d → chart_loans d' ≡ chart_loans d
     → ((h : History) → AllSheets h ss → ChartLed h n d → Answered h n c x d')
     → StepLed (Ok c) a (objects ss ts cs) (objects ss ts (slice_set cs n d'))
-on_chart c x a ss ts cs n d d' is i j k g e f =
+on_chart c x a ss ts cs n d d' is i j k g e q f =
     let v : Event = record { call = c; answer = x } in
     let o = objects ss ts cs in
     let o' = objects ss ts (slice_set cs n d') in
     record {
       same = ap (λ as'. record { sheets = length ss; rooms = map rooms_of ts; areas = as' }) (map_after_set areas cs n d d' g e);
+      on_loan = ap (λ k. record { tables = map table_loans ts; charts = k }) (map_after_set chart_loans cs n d d' g q);
       right = λ h led. subst (λ z. RightGiven h c z) (sym is) (f h led.sheets (led.charts n d g)).0;
       led = λ h led. subst (λ z. ObjectsLed (with_given c z h) o') (sym is) (record {
-        sheets = sheets_stay h v ss (λ m q. none m (sym i ∙ q)) led.sheets;
-        tables = tables_stay h v ts (λ m q. none m (sym j ∙ q)) led.tables;
+        sheets = sheets_stay h v ss (λ m p. none m (sym i ∙ p)) led.sheets;
+        tables = tables_stay h v ts (λ m p. none m (sym j ∙ p)) led.tables;
         charts = charts_set h v cs n d' k (f h led.sheets (led.charts n d g)).1 led.charts;
       });
     }
@@ -171,16 +184,16 @@ on_chart c x a ss ts cs n d d' is i j k g e f =
 pub filled : (ss : List Sheet) (cs : List Chart) (n m k : ℕ) (b : Sheet) (e d' : Chart) (r : Result (ℕ × ℕ) FillingFault)
     → m < length ss → n < length cs → b ≡ slice_index_or ss m b
     → ((h : History) (c s : ℕ) → SheetLed h s b → ChartLed h c (slice_index_or cs n e) → Answered h c (filling c s k (areas (slice_index_or cs n e))) r d')
-    → areas d' ≡ areas (slice_index_or cs n e) → (ts : List Table)
+    → areas d' ≡ areas (slice_index_or cs n e) → OnLoan (slice_index_or cs n e).labels (slice_index_or cs n e).standings (slice_index_or cs n e).next d' → (ts : List Table)
     → StepLed (filling_at (lent (objects ss ts cs)) n m k) (Filled r) (objects ss ts cs) (objects ss ts (slice_set cs n d'))
-filled ss cs n m k b e d' r l q is f same ts =
+filled ss cs n m k b e d' r l q is f same loan ts =
     let o = objects ss ts cs in
     let d = slice_index_or cs n e in
     let g : slice_get cs n ≡ Some d = get_at cs n e q in
     let made : filling_at (lent o) n m k ≡ Ok (filling n m k (areas d)) =
     below_made m (length ss) _ l ∙ there_made (slice_get (map areas cs) n) (areas d) (λ a. filling n m k a) (get_mapped areas cs n d g) in
     subst (λ (c : MeantCall). StepLed c (Filled r) o (objects ss ts (slice_set cs n d'))) (sym made)
-    (on_chart (filling n m k (areas d)) r (Filled r) ss ts cs n d d' refl refl refl refl g same
+    (on_chart (filling n m k (areas d)) r (Filled r) ss ts cs n d d' refl refl refl refl g same (filled_on_loan d d' loan)
     (λ h sheets chart. f h n m (sheets m b (get_at ss m b l ∙ ap Some (sym is))) chart))
 
 -- the call is made on a chart that is there
@@ -196,7 +209,7 @@ pub begun : (cs : List Chart) (n : ℕ) (e d' : Chart) (r : Result (Unit {0}) Be
 begun cs n e d' r l f same ss ts =
     let d = slice_index_or cs n e in
     subst (λ (c : MeantCall). StepLed c (Begun r) (objects ss ts cs) (objects ss ts (slice_set cs n d'))) (sym (chart_made ss ts cs n (beginning n) l))
-    (on_chart (beginning n) r (Begun r) ss ts cs n d d' refl refl refl refl (get_at cs n e l) (same_areas d d' same) (λ h sheets chart. f h n chart))
+    (on_chart (beginning n) r (Begun r) ss ts cs n d d' refl refl refl refl (get_at cs n e l) (same_areas d d' same) (same_on_loan d d' same) (λ h sheets chart. f h n chart))
 
 pub scanned : (cs : List Chart) (n a : ℕ) (e d' : Chart) (r : Result Scan ScanningFault) → n < length cs
     → ((h : History) (c : ℕ) → ChartLed h c (slice_index_or cs n e) → Answered h c (scanning c a) r d') → SameAreas (slice_index_or cs n e) d'
@@ -204,7 +217,7 @@ pub scanned : (cs : List Chart) (n a : ℕ) (e d' : Chart) (r : Result Scan Scan
 scanned cs n a e d' r l f same ss ts =
     let d = slice_index_or cs n e in
     subst (λ (c : MeantCall). StepLed c (Scanned r) (objects ss ts cs) (objects ss ts (slice_set cs n d'))) (sym (chart_made ss ts cs n (scanning n a) l))
-    (on_chart (scanning n a) r (Scanned r) ss ts cs n d d' refl refl refl refl (get_at cs n e l) (same_areas d d' same) (λ h sheets chart. f h n chart))
+    (on_chart (scanning n a) r (Scanned r) ss ts cs n d d' refl refl refl refl (get_at cs n e l) (same_areas d d' same) (same_on_loan d d' same) (λ h sheets chart. f h n chart))
 
 -- ---- looking for a breach
 
@@ -215,8 +228,8 @@ looked_on c None h o i j k right led = absurd right
 looked_on c (Some x) h o i j k right led =
     let v : Event = record { call = c; answer = x } in
     record {
-      sheets = sheets_stay h v o.sheets (λ m q. none m (sym i ∙ q)) led.sheets;
-      tables = tables_stay h v o.tables (λ m q. none m (sym j ∙ q)) led.tables;
+      sheets = sheets_stay h v o.sheets (λ m p. none m (sym i ∙ p)) led.sheets;
+      tables = tables_stay h v o.tables (λ m p. none m (sym j ∙ p)) led.tables;
       charts = charts_stay h v o.charts (λ m q. none m (sym k ∙ q)) led.charts;
     }
 
@@ -224,11 +237,13 @@ looked_step : (n pairs walk : ℕ) (k : Result Machine Answer) (a : Answer) (c :
     → StepLed (searching_with n pairs walk k) a o o
 looked_step n pairs walk (Ok m) a c o g looks = record {
   same = refl;
+  on_loan = refl;
   right = λ h led. looks h n (led.charts n c g) led.tables;
   led = λ h led. looked_on (searching n m pairs (replicate walk 0)) (given (searching n m pairs (replicate walk 0)) a) h o refl refl refl (looks h n (led.charts n c g) led.tables) led;
 }
 looked_step n pairs walk (Err why) a c o g looks = record {
   same = refl;
+  on_loan = refl;
   right = λ h led. looks h n (led.charts n c g) led.tables;
   led = λ h led. led;
 }

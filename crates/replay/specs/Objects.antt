@@ -1,4 +1,5 @@
 -- Sheets, tables and charts as a list of calls left them. Assumes nothing.
+use base.Fml.{GName}
 use Rattle.std.specs.Prelude.{◌≡◌, ℕ, List, map, length, Some, slice_get}
 use Rattle.meaning.specs.Charts.{Areas}
 use Rattle.meaning.specs.Files.{Rooms}
@@ -35,3 +36,17 @@ pub record Lent : Type 0 where
 
 abbrev pub lent : Objects → Lent
 lent o = record { sheets = length o.sheets; rooms = map rooms_of o.tables; areas = map areas o.charts }
+
+-- the loans that the areas of the tables and charts are on
+pub record Loans : Type 0 where
+  pub tables : List (GName × GName)
+  pub charts : List (GName × GName × GName)
+
+abbrev pub table_loans : Table → GName × GName
+table_loans t = (t.states.ghost_name, t.steps.ghost_name)
+
+abbrev pub chart_loans : Chart → GName × GName × GName
+chart_loans c = (c.labels.ghost_name, c.standings.ghost_name, c.next.ghost_name)
+
+abbrev pub loans : Objects → Loans
+loans o = record { tables = map table_loans o.tables; charts = map chart_loans o.charts }

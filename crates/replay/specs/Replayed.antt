@@ -5,7 +5,7 @@ use Rattle.meaning.specs.Calls.{Call as Meant, Answer as Given, History}
 use Rattle.meaning.specs.Right.{Right, AllRight}
 use Rattle.replay.specs.declared.call.Call.{Call}
 use Rattle.replay.specs.declared.answer.Answer.{Answer}
-use Rattle.replay.specs.Objects.{Objects, ObjectsLed, Lent, lent}
+use Rattle.replay.specs.Objects.{Objects, ObjectsLed, Lent, lent, loans}
 use Rattle.replay.specs.Meant.{meant, given}
 
 -- ---- one call
@@ -29,9 +29,10 @@ abbrev pub with_answer : Result Meant Answer → Answer → History → History
 with_answer (Ok c) a h = with_given c (given c a) h
 with_answer (Err why) a h = h
 
--- after every list of calls that led to the objects o the answer is right, and with it the objects are o'; nothing that is lent changes
+-- after every list of calls that led to the objects o the answer is right, and with it the objects are o'; they keep their areas, on the same loans
 pub record StepLed (c : Result Meant Answer) (a : Answer) (o o' : Objects) : Type 0 where
   pub same : lent o' ≡ lent o
+  pub on_loan : loans o' ≡ loans o
   pub right : (h : History) → ObjectsLed h o → RightAnswer h c a
   pub led : (h : History) → ObjectsLed h o → ObjectsLed (with_answer c a h) o'
 
@@ -52,9 +53,10 @@ RightAnswers mean laws l h (c ∷ cs) (a ∷ xs) =
     RightAnswer h (meant mean laws l c) a × RightAnswers mean laws l (with_answer (meant mean laws l c) a h) cs xs
 
 -- after every list of calls that led to the objects o, the answers xs to the calls cs are right, the longer list has only right answers
--- if it had so before, and the objects o' are as it says; nothing that is lent changes
+-- if it had so before, and the objects o' are as it says; they keep their areas, on the same loans
 pub record Replayed {M : Type 0} (mean : M → Meaning) (laws : (m : M) → Lawful (mean m)) (cs : List (Call M)) (xs : List Answer) (o o' : Objects) : Type 0 where
   pub same : lent o' ≡ lent o
+  pub on_loan : loans o' ≡ loans o
   pub right : (h : History) → ObjectsLed h o → RightAnswers mean laws (lent o) h cs xs
   pub all_right : (h : History) → ObjectsLed h o → AllRight h → AllRight (history mean laws (lent o) cs xs h)
   pub led : (h : History) → ObjectsLed h o → ObjectsLed (history mean laws (lent o) cs xs h) o'
