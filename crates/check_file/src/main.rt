@@ -4,6 +4,7 @@
 
 ghost use Rattle.std.specs.Prelude.{◌≤◌, IfOk, vec_len};
 
+use anyhow::Context;
 use report::report::report;
 use std::io;
 use std::io::{Read, Write};
@@ -23,8 +24,9 @@ fn read_input(rt: &HostRuntime) -> io::Result<Vec<u8>>
 }
 
 fn main(rt: HostRuntime) -> anyhow::Result<()> {
-    let bytes = read_input(&rt)?;
+    let bytes = read_input(&rt).context("the file cannot be read from standard input")?;
     let text = report(rt.alloc(), bytes.as_slice())?;
-    rt.stdout().write_all(text.as_bytes())?;
-    Ok(())
+    rt.stdout()
+        .write_all(text.as_bytes())
+        .context("the report cannot be written to standard output")
 }

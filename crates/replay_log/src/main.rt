@@ -2,6 +2,7 @@
 // Nothing stands on it.
 #![tactic(auto)]
 
+use anyhow::Context;
 use logs::replay_log::replay_log;
 use std::io;
 use std::io::{Read, Write};
@@ -14,8 +15,9 @@ fn read_input(rt: &HostRuntime) -> io::Result<Vec<u8>> {
 }
 
 fn main(rt: HostRuntime) -> anyhow::Result<()> {
-    let bytes = read_input(&rt)?;
+    let bytes = read_input(&rt).context("the log cannot be read from standard input")?;
     let text = replay_log(rt.alloc(), bytes.as_slice())?;
-    rt.stdout().write_all(text.as_bytes())?;
-    Ok(())
+    rt.stdout()
+        .write_all(text.as_bytes())
+        .context("the answers cannot be written to standard output")
 }
