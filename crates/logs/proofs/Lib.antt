@@ -1,5 +1,4 @@
 pub mod NewObjects
 pub mod PlayedBack
-pub mod ReadBytes
 pub mod ReadLines
 pub mod ReadWords

@@ -1,11 +1,14 @@
 -- Lines that are read one after another. Assumes nothing.
-use Rattle.std.proofs.Common.{◌≡◌, ℕ, ◌+◌, List, [], ◌∷◌, ◌++◌, map, length, cond, true, false, Some, None, Option, refl, sym, ap, subst, ◌∙◌, append_assoc, append-nil, ◌==◌, arith}
+use Rattle.std.proofs.Common.{◌≡◌, ℕ, ◌+◌, List, [], ◌∷◌, ◌++◌, map, length, cond, true, false, Some, None, Err, Option, refl, sym, ap, subst, ◌∙◌, append_assoc, append-nil, ◌==◌, arith}
 use Rattle.std.proofs.lemmas.Bool.{eqb-true}
 use Rattle.std.proofs.lemmas.List.{length-map}
 use Rattle.meaning.specs.Bytes.{Text, is_empty, parted}
 use Rattle.replay.specs.declared.call.Call.{Call}
 use Rattle.logs.specs.declared.machine.NoMachine.{NoMachine}
 use Rattle.logs.specs.Told.{Told, told, call, whole, log_lines, lines_told, calls_told, numbers}
+use Rattle.logs.specs.declared.unread.Unread.{Unread}
+use Rattle.logs.specs.declared.unread.Unread.TheVariants.{NoForm}
+use Rattle.logs.specs.Reads.{Reads}
 use Rattle.logs.specs.Replays.{HoldsLines}
 
 -- ---- one line more
@@ -40,6 +43,12 @@ no_call_held ts t ks ks' cs h i j =
       calls_are = h.calls_are ∙ sym (calls_stay ts);
       numbers_are = j ∙ ap (λ l. l ++ (None ∷ [])) h.numbers_are ∙ sym (numbers_none 0 ts);
     })
+
+pub unread_held : (ts : List (Option Told)) (t : Option Told) (ks ks' : List (Option ℕ)) (cs cs' : List (Call NoMachine)) (e : Unread) → HoldsLines ts ks cs
+    → Reads told t (Err e) → (e ≡ NoForm) × (ks' ≡ ks ++ (None ∷ [])) × (cs' ≡ cs) → HoldsLines (ts ++ (t ∷ [])) ks' cs'
+unread_held ts t ks ks' cs cs' e h r a =
+    let held = no_call_held ts t ks ks' cs h (subst (λ (u : Unread). Reads told t (Err u)) a.0 r) a.1 in
+    subst (λ ds. HoldsLines (ts ++ (t ∷ [])) ks' ds) (sym a.2) held
 
 pub call_held : (ts : List (Option Told)) (t : Option Told) (ks ks' : List (Option ℕ)) (cs cs' : List (Call NoMachine)) (c : Call NoMachine) (n : ℕ)
     → HoldsLines ts ks cs → Some (told c) ≡ t → n ≡ length cs → cs' ≡ cs ++ (c ∷ []) → ks' ≡ ks ++ (Some n ∷ []) → HoldsLines (ts ++ (t ∷ [])) ks' cs'

@@ -1,5 +1,6 @@
 pub mod Fresh
 pub mod NoMachine
+pub mod Reads
 pub mod Replays
 pub mod Told
 pub mod Written

@@ -1,4 +1,4 @@
--- The machine that is none. Assumes nothing.
+-- The machine without states. Assumes nothing.
 use Rattle.std.proofs.Common.{arith}
 use Rattle.meaning.specs.Machines.{Meaning, Lawful}
 use Rattle.meaning.specs.Kinds.{no_machine}

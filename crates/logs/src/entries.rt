@@ -1,10 +1,11 @@
 // The lines of a log, one after another.
-ghost use Rattle.std.specs.Prelude.{List, Option as Maybe, IfOk, [], ◌∷◌, ◌++◌};
+ghost use Rattle.std.specs.Prelude.{◌≡◌, List, Option as Maybe, IfOk, [], ◌∷◌, ◌++◌};
 ghost use Rattle.logs.specs.Told.{Told, lines_told, call as call_of};
 ghost use Rattle.logs.specs.Replays.{HoldsLines};
 
 use crate::machine::NoMachine;
 use crate::reading::read_call;
+use crate::unread::Unread;
 use lines::cut;
 use replay::call::Call;
 use std::alloc::{AllocError, Global};
@@ -22,13 +23,27 @@ impl Log {
         ensures { (ts : List (Maybe Told)) → HoldsLines ts self.old.numbers.items self.old.calls.items → IfOk result (λ _. HoldsLines (ts ++ (call_of line.now ∷ [])) self.new.numbers.items self.new.calls.items) }
     {
         let number = self.calls.len();
-        let Some(call) = read_call(heap, line)? else {
-            self.numbers.push(None)?;
-            return Ok(());
-        };
-        self.calls.push(call)?;
-        self.numbers.push(Some(number))?;
-        Ok(())
+        match read_call(heap, line) {
+            Ok(call) => {
+                self.calls.push(call)?;
+                self.numbers.push(Some(number))?;
+                Ok(())
+            }
+            Err(unread) => self.add_unread(unread),
+        }
+    }
+
+    // Adds a line of no form.
+    fn add_unread(&mut self, unread: Unread) -> Result<(), AllocError>
+        ensures { IfOk result (λ _. (unread ≡ Unread.NoForm) × (self.new.numbers.items ≡ self.old.numbers.items ++ (None ∷ [])) × (self.new.calls.items ≡ self.old.calls.items)) }
+    {
+        match unread {
+            Unread::NoForm => {
+                self.numbers.push(None)?;
+                Ok(())
+            }
+            Unread::NoMemory => Err(AllocError),
+        }
     }
 }
 

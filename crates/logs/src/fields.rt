@@ -1,8 +1,10 @@
 // The fields of a line of a log.
 ghost use Rattle.std.specs.Prelude.{◌≡◌, ◌==◌, IfOk, option_map, position};
 ghost use Rattle.meaning.specs.Bytes.{after as after_word};
+ghost use Rattle.logs.specs.Reads.{Reads};
 ghost use Rattle.logs.specs.Told.{cut_at, small, byte as byte_of, numbered as numbered_of, bytes as bytes_of, unfolded};
 
+use crate::unread::Unread;
 use lines::{cut, read_number};
 use std::alloc::{AllocError, Global};
 
@@ -59,26 +61,20 @@ pub(crate) fn byte(text: &[u8]) -> Option<u8>
 }
 
 // Numbers up to 255, parted by one space; none where the text is empty.
-pub(crate) fn bytes(heap: Global, text: &[u8]) -> Result<Option<Vec<u8>>, AllocError>
-    ensures { IfOk result (λ o. option_map (λ v. v.items) o ≡ bytes_of text.now) }
+pub(crate) fn bytes(heap: Global, text: &[u8]) -> Result<Vec<u8>, Unread>
+    ensures { Reads (λ v. v.items) (bytes_of text.now) result }
 {
     let mut numbers = Vec::new(heap);
     if text.is_empty() {
-        return Ok(Some(numbers));
+        return Ok(numbers);
     }
     let mut rest = text;
     while let Some((part, more)) = cut(rest, b' ') {
-        let Some(number) = byte(part) else {
-            return Ok(None);
-        };
-        numbers.push(number)?;
+        numbers.push(byte(part).ok_or(Unread::NoForm)?)?;
         rest = more;
     }
-    let Some(number) = byte(rest) else {
-        return Ok(None);
-    };
-    numbers.push(number)?;
-    Ok(Some(numbers))
+    numbers.push(byte(rest).ok_or(Unread::NoForm)?)?;
+    Ok(numbers)
 }
 
 // A file on one line: a semicolon stands for each LF.

@@ -7,4 +7,5 @@ mod fields;
 mod machine;
 mod reading;
 pub mod replay_log;
+mod unread;
 mod writing;

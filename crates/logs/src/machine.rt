@@ -1,10 +1,10 @@
-// A log names tables and rounds, and no machine of a caller's.
+// A machine without states, where a list of calls may have one of the caller's: a log names tables and rounds alone.
 ghost use Rattle.logs.specs.NoMachine.{no_meaning, no_laws};
 
 use machines::machine::Machine;
 
-#[derive(Drop)]
-pub enum NoMachine {}
+#[derive(Clone, Copy)]
+pub struct NoMachine;
 
 impl Machine for NoMachine {
     ghost meaning = { no_meaning };
@@ -12,30 +12,30 @@ impl Machine for NoMachine {
     ghost lawful = { no_laws };
 
     fn count(&self) -> usize {
-        match *self {}
+        0
     }
 
     fn width(&self) -> usize {
-        match *self {}
+        0
     }
 
     fn start_count(&self) -> usize {
-        match *self {}
+        0
     }
 
     fn start(&self, _k: usize) -> Option<usize> {
-        match *self {}
+        None
     }
 
     fn letter(&self, _s: usize) -> Option<u8> {
-        match *self {}
+        None
     }
 
     fn step_count(&self, _s: usize) -> Option<usize> {
-        match *self {}
+        None
     }
 
     fn step(&self, _s: usize, _k: usize) -> Option<usize> {
-        match *self {}
+        None
     }
 }

@@ -1,48 +1,40 @@
 // The call that a line of a log tells.
-ghost use Rattle.std.specs.Prelude.{◌≡◌, IfOk, option_map};
-ghost use Rattle.logs.specs.Told.{told, base, numbered as numbered_of, opening, entering, loading, filling, beginning, scanning, finding, ground, machine, chart_and_areas, chart_call, call};
+ghost use Rattle.std.specs.Prelude.{◌≡◌, option_map};
+ghost use Rattle.logs.specs.Reads.{Reads};
+ghost use Rattle.logs.specs.Told.{told, base, opening, entering, loading, filling, beginning, scanning, finding, ground, machine, chart_and_areas, chart_call, call};
 
 use crate::fields::{after, byte, bytes, number, numbered, split, unfold};
 use crate::machine::NoMachine;
+use crate::unread::Unread;
 use replay::call::{Call, Ground, Pile};
-use std::alloc::{AllocError, Global};
-
-// A number, and the text behind its comma.
-fn numbered_text(heap: Global, text: &[u8]) -> Result<Option<(usize, Vec<u8>)>, AllocError>
-    ensures { IfOk result (λ o. option_map (λ p. (p.0, p.1.items)) o ≡ numbered_of text.now) }
-{
-    let Some((number, rest)) = numbered(text) else {
-        return Ok(None);
-    };
-    Ok(Some((number, rest.to_vec(heap)?)))
-}
+use std::alloc::Global;
 
 // SHEET,NAMES
-fn read_open(heap: Global, text: &[u8]) -> Result<Option<Call<NoMachine>>, AllocError>
-    ensures { IfOk result (λ o. option_map told o ≡ opening text.now) }
+fn read_open(heap: Global, text: &[u8]) -> Result<Call<NoMachine>, Unread>
+    ensures { Reads told (opening text.now) result }
 {
-    Ok(numbered_text(heap, text)?.map(|(sheet, names)| Call::Open { sheet, names }))
+    let (sheet, names) = numbered(text).ok_or(Unread::NoForm)?;
+    let names = names.to_vec(heap)?;
+    Ok(Call::Open { sheet, names })
 }
 
 // SHEET,RULE
-fn read_enter(heap: Global, text: &[u8]) -> Result<Option<Call<NoMachine>>, AllocError>
-    ensures { IfOk result (λ o. option_map told o ≡ entering text.now) }
+fn read_enter(heap: Global, text: &[u8]) -> Result<Call<NoMachine>, Unread>
+    ensures { Reads told (entering text.now) result }
 {
-    Ok(numbered_text(heap, text)?.map(|(sheet, rule)| Call::Enter { sheet, rule }))
+    let (sheet, rule) = numbered(text).ok_or(Unread::NoForm)?;
+    let rule = rule.to_vec(heap)?;
+    Ok(Call::Enter { sheet, rule })
 }
 
 // SHEET,TABLE,FILE
-fn read_load(heap: Global, text: &[u8]) -> Result<Option<Call<NoMachine>>, AllocError>
-    ensures { IfOk result (λ o. option_map told o ≡ loading text.now) }
+fn read_load(heap: Global, text: &[u8]) -> Result<Call<NoMachine>, Unread>
+    ensures { Reads told (loading text.now) result }
 {
-    let Some((sheet, rest)) = numbered(text) else {
-        return Ok(None);
-    };
-    let Some((table, file)) = numbered(rest) else {
-        return Ok(None);
-    };
+    let (sheet, rest) = numbered(text).ok_or(Unread::NoForm)?;
+    let (table, file) = numbered(rest).ok_or(Unread::NoForm)?;
     let file = unfold(heap, file)?;
-    Ok(Some(Call::Load { sheet, table, file }))
+    Ok(Call::Load { sheet, table, file })
 }
 
 // CHART,SHEET,RULE
@@ -73,32 +65,26 @@ fn read_scan(text: &[u8]) -> Option<Call<NoMachine>>
 }
 
 // `table,TABLE` or `round,LETTERS`
-fn read_ground(heap: Global, text: &[u8]) -> Result<Option<Ground<NoMachine>>, AllocError>
-    ensures { IfOk result (λ o. option_map base o ≡ ground text.now) }
+fn read_ground(heap: Global, text: &[u8]) -> Result<Ground<NoMachine>, Unread>
+    ensures { Reads base (ground text.now) result }
 {
     if let Some(rest) = after(text, b"table,") {
-        return Ok(number(rest).map(|table| Ground::Table(table)));
+        let table = number(rest).ok_or(Unread::NoForm)?;
+        return Ok(Ground::Table(table));
     }
-    let Some(rest) = after(text, b"round,") else {
-        return Ok(None);
-    };
-    Ok(bytes(heap, rest)?.map(|letters| Ground::Round(letters)))
+    let rest = after(text, b"round,").ok_or(Unread::NoForm)?;
+    let letters = bytes(heap, rest)?;
+    Ok(Ground::Round(letters))
 }
 
 // SIGNALS and a ground
-fn read_machine(heap: Global, text: &[u8]) -> Result<Option<Pile<NoMachine>>, AllocError>
-    ensures { IfOk result (λ o. option_map (λ p. (p.stuck.items, base p.ground)) o ≡ machine text.now) }
+fn read_machine(heap: Global, text: &[u8]) -> Result<Pile<NoMachine>, Unread>
+    ensures { Reads (λ p. (p.stuck.items, base p.ground)) (machine text.now) result }
 {
-    let Some((signals, rest)) = split(text, b',') else {
-        return Ok(None);
-    };
-    let Some(stuck) = bytes(heap, signals)? else {
-        return Ok(None);
-    };
-    let Some(ground) = read_ground(heap, rest)? else {
-        return Ok(None);
-    };
-    Ok(Some(Pile { ground, stuck }))
+    let (signals, rest) = split(text, b',').ok_or(Unread::NoForm)?;
+    let stuck = bytes(heap, signals)?;
+    let ground = read_ground(heap, rest)?;
+    Ok(Pile { ground, stuck })
 }
 
 // CHART,PAIRS,WALK, and what follows.
@@ -112,21 +98,17 @@ fn read_areas(text: &[u8]) -> Option<(usize, usize, usize, &[u8])>
 }
 
 // CHART,PAIRS,WALK,SIGNALS and a ground
-fn read_find(heap: Global, text: &[u8]) -> Result<Option<Call<NoMachine>>, AllocError>
-    ensures { IfOk result (λ o. option_map told o ≡ finding text.now) }
+fn read_find(heap: Global, text: &[u8]) -> Result<Call<NoMachine>, Unread>
+    ensures { Reads told (finding text.now) result }
 {
-    let Some((chart, pairs, walk, rest)) = read_areas(text) else {
-        return Ok(None);
-    };
-    let Some(machine) = read_machine(heap, rest)? else {
-        return Ok(None);
-    };
-    Ok(Some(Call::Search {
+    let (chart, pairs, walk, rest) = read_areas(text).ok_or(Unread::NoForm)?;
+    let machine = read_machine(heap, rest)?;
+    Ok(Call::Search {
         chart,
         machine,
         pairs,
         walk,
-    }))
+    })
 }
 
 // A call on a chart alone, or on a chart and a sheet.
@@ -143,8 +125,8 @@ fn read_chart_call(line: &[u8]) -> Option<Call<NoMachine>>
 }
 
 // The call of a line.
-pub(crate) fn read_call(heap: Global, line: &[u8]) -> Result<Option<Call<NoMachine>>, AllocError>
-    ensures { IfOk result (λ o. option_map told o ≡ call line.now) }
+pub(crate) fn read_call(heap: Global, line: &[u8]) -> Result<Call<NoMachine>, Unread>
+    ensures { Reads told (call line.now) result }
 {
     if let Some(rest) = after(line, b"open,") {
         return read_open(heap, rest);
@@ -158,5 +140,5 @@ pub(crate) fn read_call(heap: Global, line: &[u8]) -> Result<Option<Call<NoMachi
     if let Some(rest) = after(line, b"find,") {
         return read_find(heap, rest);
     }
-    Ok(read_chart_call(line))
+    read_chart_call(line).ok_or(Unread::NoForm)
 }

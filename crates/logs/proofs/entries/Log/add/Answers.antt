@@ -1,11 +1,11 @@
-use Rattle.std.proofs.Common.{◌∙◌, ap, sym, arith}
-use Rattle.std.specs.Option.{option_map}
-use Rattle.logs.specs.Told.{told}
-use Rattle.logs.proofs.ReadLines.{no_call_held, call_held}
+use Rattle.std.proofs.Common.{arith}
+use Rattle.logs.specs.Told.{call}
+use Rattle.logs.proofs.NewObjects.{if_ok_then}
+use Rattle.logs.proofs.ReadLines.{call_held, unread_held}
 use Rattle.logs.proofs.entries.Log.add.Goals as goal
 
-pub returns-in_default : goal.returns-in_default
-returns-in_default c = λ ts h. no_call_held ts _ _ _ _ h (ap (option_map told) (sym c.in_default.is) ∙ c.in_ok-call.ensures) c.in_ok-push.ensures.items
+pub returns-in_ok-push-in-Ok-2 : goal.returns-in_ok-push-in-Ok-2
+returns-in_ok-push-in-Ok-2 c = λ ts h. call_held ts _ _ _ _ _ c.in-Ok.call c.len-number.result h c.in-Ok.ensures (omega arith) c.in_ok-push-in-Ok.ensures.items c.in_ok-push-in-Ok-2.ensures.items
 
-pub returns : goal.returns
-returns c = λ ts h. call_held ts _ _ _ _ _ c.in-Some.call c.len-number.result h (ap (option_map told) (sym c.in-Some.is) ∙ c.in_ok-call.ensures) (omega arith) c.in_ok-push-2.ensures.items c.in_ok-push-3.ensures.items
+pub returns-in-Err : goal.returns-in-Err
+returns-in-Err c = λ ts h. if_ok_then c.add_unread.result (λ u a. unread_held ts (call c.args.line.now) _ _ _ _ c.in-Err.unread h c.in-Err.ensures a) c.add_unread.ensures
