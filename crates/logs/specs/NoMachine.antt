@@ -4,9 +4,11 @@ use Rattle.meaning.specs.Machines.{Meaning, Lawful}
 use Rattle.meaning.specs.Kinds.{no_machine}
 use Rattle.logs.specs.declared.machine.NoMachine.{NoMachine}
 
+-- it means the machine without states
 abbrev pub no_meaning : NoMachine → Meaning
 no_meaning m = no_machine
 
+-- that keeps the laws
 pub no_laws : (m : NoMachine) → Lawful (no_meaning m)
 no_laws m = record {
   starts_below = tt;

@@ -10,6 +10,7 @@ abbrev pub said : Option Answer → Text
 said None = codes "no form"
 said (Some a) = answer_text a
 
+-- the answer to a line by the number of its call
 abbrev pub answer_to : Option ℕ → List Answer → Option Answer
 answer_to None xs = None
 answer_to (Some k) xs = slice_get xs k
@@ -18,5 +19,6 @@ answer_to (Some k) xs = slice_get xs k
 abbrev pub answer_line : List Answer → Option ℕ → Text
 answer_line xs k = said (answer_to k xs) ++ codes "\n"
 
+-- a line for each line of the log
 abbrev pub written : List Answer → List (Option ℕ) → Text
 written xs ks = flat_map (answer_line xs) ks

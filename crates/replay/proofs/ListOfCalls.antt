@@ -6,7 +6,7 @@ use Rattle.meaning.specs.Calls.{Call as Called, Answer as Given, History}
 use Rattle.meaning.specs.Right.{AllRight}
 use Rattle.replay.specs.declared.call.Call.{Call}
 use Rattle.replay.specs.declared.answer.Answer.{Answer}
-use Rattle.replay.specs.Objects.{Objects, ObjectsLed, Lent, lent}
+use Rattle.replay.specs.Objects.{Objects, ObjectsLed, AllNew, Lent, lent}
 use Rattle.replay.specs.Meant.{MeantCall, meant, given}
 use Rattle.replay.specs.Replayed.{RightGiven, RightAnswer, with_given, with_answer, StepLed, history, RightAnswers, Replayed}
 
@@ -44,8 +44,12 @@ right_more mean laws l [] (x ∷ xs) c a h right one = absurd right
 right_more mean laws l (b ∷ cs) [] c a h right one = absurd right
 right_more mean laws l (b ∷ cs) (x ∷ xs) c a h right one = (right.0, right_more mean laws l cs xs c a (with_answer (meant mean laws l b) x h) right.1 one)
 
+-- new objects are as the empty history says
+new_led : (o : Objects) → AllNew o → ObjectsLed [] o
+new_led o new = record { sheets = new.sheets; tables = new.tables; charts = new.charts }
+
 pub nothing_replayed : {M : Type 0} (mean : M → Meaning) (laws : (m : M) → Lawful (mean m)) (o : Objects) → Replayed mean laws [] [] o o
-nothing_replayed mean laws o = record { same = refl; on_loan = refl; right = λ h led. tt; all_right = λ h led all. all; led = λ h led. led }
+nothing_replayed mean laws o = record { same = refl; on_loan = refl; right = λ h led. tt; all_right = λ h led all. all; led = λ h led. led; from_new = λ new. tt }
 
 pub replayed_more : {M : Type 0} (mean : M → Meaning) (laws : (m : M) → Lawful (mean m)) (cs : List (Call M)) (xs : List Answer) (c : Call M) (a : Answer) (o o' o'' : Objects)
     → Replayed mean laws cs xs o o' → StepLed (meant mean laws (lent o') c) a o' o'' → Replayed mean laws (cs ++ (c ∷ [])) (xs ++ (a ∷ [])) o o''
@@ -54,12 +58,14 @@ replayed_more mean laws cs xs c a o o' o'' p q =
     let step = subst (λ k. StepLed (meant mean laws k c) a o' o'') p.same q in
     let more = λ (h : History) (led : ObjectsLed h o). history_more mean laws l cs xs c a h (p.right h led) in
     let one = λ (h : History) (led : ObjectsLed h o). step.right (history mean laws l cs xs h) (p.led h led) in
+    let all = λ (h : History) (led : ObjectsLed h o) (before : AllRight h). subst (λ k. AllRight k) (sym (more h led)) (answer_right (history mean laws l cs xs h) (meant mean laws l c) a (one h led) (p.all_right h led before)) in
     record {
       same = step.same ∙ p.same;
       on_loan = step.on_loan ∙ p.on_loan;
       right = λ h led. right_more mean laws l cs xs c a h (p.right h led) (one h led);
-      all_right = λ h led all. subst (λ k. AllRight k) (sym (more h led)) (answer_right (history mean laws l cs xs h) (meant mean laws l c) a (one h led) (p.all_right h led all));
+      all_right = all;
       led = λ h led. subst (λ k. ObjectsLed k o'') (sym (more h led)) (step.led (history mean laws l cs xs h) (p.led h led));
+      from_new = λ new. all [] (new_led o new) tt;
     }
 
 -- after one call more, which is the next of the list

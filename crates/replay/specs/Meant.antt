@@ -16,32 +16,38 @@ use Rattle.replay.specs.Objects.{Lent}
 abbrev pub MeantCall : Type 0
 MeantCall = Result Meant Answer
 
+-- the call where the number is below a count
 abbrev pub if_below : ℕ → ℕ → MeantCall → MeantCall
 if_below n count c = cond (nat_lt n count) c (Err NoSuchObject)
 
+-- the call where there is such an object
 abbrev pub if_there : {X : Type 0} → Option X → (X → Meant) → MeantCall
 if_there None f = Err NoSuchObject
 if_there (Some x) f = Ok (f x)
 
 -- ---- the calls of each kind
 
+-- on a sheet
 abbrev pub opening_at : Lent → ℕ → Text → MeantCall
 opening_at l s t = if_below s l.sheets (Ok (opening s t))
 
+-- on a sheet
 abbrev pub entering_at : Lent → ℕ → Text → MeantCall
 entering_at l s t = if_below s l.sheets (Ok (entering s t))
 
--- with the rooms of the table
+-- on a sheet and a table, with the rooms of the table
 abbrev pub loading_at : Lent → ℕ → ℕ → Text → MeantCall
 loading_at l s t file = if_below s l.sheets (if_there (slice_get l.rooms t) (λ r. loading s t r file))
 
--- with the areas of the chart
+-- on a chart and a sheet, with the areas of the chart
 abbrev pub filling_at : Lent → ℕ → ℕ → ℕ → MeantCall
 filling_at l c s k = if_below s l.sheets (if_there (slice_get l.areas c) (λ a. filling c s k a))
 
+-- on a chart
 abbrev pub beginning_at : Lent → ℕ → MeantCall
 beginning_at l c = if_below c (length l.areas) (Ok (beginning c))
 
+-- on a chart
 abbrev pub scanning_at : Lent → ℕ → ℕ → MeantCall
 scanning_at l c a = if_below c (length l.areas) (Ok (scanning c a))
 
@@ -63,6 +69,7 @@ ground mean laws tables (Table t) = cond (nat_lt t tables) (Ok (table t)) (Err N
 ground mean laws tables (Round w) = Ok (round w.items)
 ground mean laws tables (Other m) = Ok (other (mean m) (laws m))
 
+-- the ground under its layers
 abbrev pub machine : {M : Type 0} → (mean : M → Meaning) → ((m : M) → Lawful (mean m)) → ℕ → Pile M → Result Machine Answer
 machine mean laws tables p = under p.stuck.items (ground mean laws tables p.ground)
 
@@ -71,11 +78,13 @@ abbrev pub searching_with : ℕ → ℕ → ℕ → Result Machine Answer → Me
 searching_with c pairs walk (Ok m) = Ok (searching c m pairs (replicate walk 0))
 searching_with c pairs walk (Err a) = Err a
 
+-- with a chart, over such a machine
 abbrev pub searching_at : {M : Type 0} → (mean : M → Meaning) → ((m : M) → Lawful (mean m)) → Lent → ℕ → Pile M → ℕ → ℕ → MeantCall
 searching_at mean laws l c p pairs walk = if_below c (length l.areas) (searching_with c pairs walk (machine mean laws (length l.rooms) p))
 
 -- ---- any call
 
+-- which call it is, with its values; or why none is made
 abbrev pub meant : {M : Type 0} → (mean : M → Meaning) → ((m : M) → Lawful (mean m)) → Lent → Call M → MeantCall
 meant mean laws l (Open s t) = opening_at l s t.items
 meant mean laws l (Enter s t) = entering_at l s t.items

@@ -5,7 +5,7 @@ use Rattle.meaning.specs.Calls.{Call as Meant, Answer as Given, History}
 use Rattle.meaning.specs.Right.{Right, AllRight}
 use Rattle.replay.specs.declared.call.Call.{Call}
 use Rattle.replay.specs.declared.answer.Answer.{Answer}
-use Rattle.replay.specs.Objects.{Objects, ObjectsLed, Lent, lent, loans}
+use Rattle.replay.specs.Objects.{Objects, ObjectsLed, AllNew, Lent, lent, loans}
 use Rattle.replay.specs.Meant.{meant, given}
 
 -- ---- one call
@@ -20,11 +20,12 @@ abbrev pub RightAnswer : History → Result Meant Answer → Answer → Type 0
 RightAnswer h (Ok c) a = RightGiven h c (given c a)
 RightAnswer h (Err why) a = a ≡ why
 
--- the history with this call and its answer in front; where no call is made it stays
+-- the history with a call and the answer given to it in front
 abbrev pub with_given : (c : Meant) → Option (Given c) → History → History
 with_given c None h = h
 with_given c (Some x) h = record { call = c; answer = x } ∷ h
 
+-- the history with this call and its answer in front; where no call is made it stays
 abbrev pub with_answer : Result Meant Answer → Answer → History → History
 with_answer (Ok c) a h = with_given c (given c a) h
 with_answer (Err why) a h = h
@@ -60,6 +61,8 @@ pub record Replayed {M : Type 0} (mean : M → Meaning) (laws : (m : M) → Lawf
   pub right : (h : History) → ObjectsLed h o → RightAnswers mean laws (lent o) h cs xs
   pub all_right : (h : History) → ObjectsLed h o → AllRight h → AllRight (history mean laws (lent o) cs xs h)
   pub led : (h : History) → ObjectsLed h o → ObjectsLed (history mean laws (lent o) cs xs h) o'
+  -- on new objects the list itself has only right answers
+  pub from_new : AllNew o → AllRight (history mean laws (lent o) cs xs [])
 
 -- memory ended after the first n calls, to whom the answers were xs; none was made after them
 pub record CutOff {M : Type 0} (mean : M → Meaning) (laws : (m : M) → Lawful (mean m)) (cs : List (Call M)) (o o' : Objects) : Type 0 where

@@ -3,6 +3,17 @@ use Rattle.std.proofs.lemmas.Result.{MatchResult-from_err}
 use Rattle.replay.proofs.ListOfCalls.{next_replayed}
 use Rattle.replay.proofs.replay.replay.Goals as goal
 
+pub returns-in_err-make : goal.returns-in_err-make
+returns-in_err-make g c =
+    record {
+      led = MatchResult-from_err _ _ _ c.from_residual.ensures.0 (λ y. record {
+        made = c.loop-call.call-index;
+        answers = c.loop-call.answers.items;
+        within = omega arith;
+        replayed = rw c.in_err-make.ensures.led c.loop-call.invariant;
+      });
+    }
+
 pub returns-in_err-push : goal.returns-in_err-push
 returns-in_err-push g c =
     record {
