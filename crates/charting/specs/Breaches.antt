@@ -6,6 +6,7 @@ use Rattle.formulas.specs.Keeps.{kept_formulas}
 use Rattle.formulas.specs.Values.{AllBefore}
 use Rattle.formulas.specs.declared.breach.BreachFormula.{BreachFormula}
 
+-- the formulas with the numbers that a breach formula keeps
 abbrev pub kept_of : BreachFormula → List Formula
 kept_of b = kept_formulas (held b.nodes) (held b.kept)
 

@@ -19,10 +19,11 @@ pub record Stands (f : Formula) (ks : List Formula) (ls : List ℕ) (a : ℕ) (u
   pub holds : (i : ℕ) → i < a → (w : List ℕ) → slice_index ls i ≡ mask (label ks w) → (bit_of r i ≡ true) ↔ Standing ks (Breach f) u (label ks w)
   pub rest : (i : ℕ) → a ≤ i → i < 512 → bit_of r i ≡ false
 
--- the number of the standing one letter after another, and of the standing after a word
+-- the number of the standing one letter after another
 abbrev pub after : List ℕ → ℕ → ℕ → ℕ
 after nx q s = slice_index nx (q * 256 + s)
 
+-- the number of the standing after a word
 abbrev pub walked : List ℕ → List ℕ → ℕ
 walked nx u = foldl (after nx) 0 u
 

@@ -6,7 +6,7 @@ use Rattle.logic.specs.Labels.{label}
 use Rattle.logic.specs.Masks.{mask}
 use Rattle.logic.specs.Standings.{SameLabel}
 use Rattle.once.specs.Once.{Apart}
-use Rattle.charting.specs.Worklists.{Reaches, LetterRow, LetterRows, Crowds}
+use Rattle.charting.specs.Worklists.{Reaches, LetterRows, Crowds}
 
 -- x is the label of a word
 abbrev pub Labels : List Formula → List ℕ → ℕ → Type 0
@@ -20,10 +20,7 @@ at_front s w = s ∷ w
 abbrev pub Words : List Formula → List ℕ → ℕ → Type 0
 Words ks ls n = Reaches 0 (Labels ks) ls n
 
--- the table's row i names, for the letters below b, the labels one letter earlier
-abbrev pub Row : List Formula → List ℕ → ℕ → List ℕ → ℕ → ℕ → Type 0
-Row ks ls n tb i b = LetterRow 0 (Labels ks) at_front ls n tb i b
-
+-- the first m rows of the table name, for each letter, the label one letter earlier
 abbrev pub Rows : List Formula → List ℕ → ℕ → List ℕ → ℕ → Type 0
 Rows ks ls n tb m = LetterRows 0 (Labels ks) at_front ls n tb m
 

@@ -2,7 +2,7 @@
 use Rattle.std.specs.Prelude.{◌≡◌, ℕ, ◌+◌, ◌*◌, ◌<◌, ◌≤◌, Bool, List, [], ◌∷◌, ◌++◌, length, slice_index}
 use Rattle.once.specs.Once.{SameWords}
 use Rattle.charting.specs.Sets.{bit_of, Packs, upto}
-use Rattle.charting.specs.Worklists.{Reaches, LetterRow, LetterRows, Crowds, Complete, Overflows}
+use Rattle.charting.specs.Worklists.{Reaches, Complete, Overflows}
 
 -- each entry of the rows below a is below a
 pub record Closed (tb : List ℕ) (a : ℕ) : Type 0 where
@@ -34,17 +34,6 @@ Walks tb a first st n = Reaches [] (Reached tb a first) st n
 -- a word with a letter after it
 abbrev pub at_end : ℕ → List ℕ → List ℕ
 at_end s u = u ++ s ∷ []
-
--- row q of the next numbers names, for the letters below b, what is reached by one letter more
-abbrev pub NextRow : List ℕ → ℕ → List ℕ → List (List ℕ) → ℕ → List ℕ → ℕ → ℕ → Type 0
-NextRow tb a first st n nx q b = LetterRow [] (Reached tb a first) at_end st n nx q b
-
-abbrev pub NextRows : List ℕ → ℕ → List ℕ → List (List ℕ) → ℕ → List ℕ → ℕ → Type 0
-NextRows tb a first st n nx m = LetterRows [] (Reached tb a first) at_end st n nx m
-
--- the n sets fill the area, and another is reached
-abbrev pub Crowded : List ℕ → ℕ → List ℕ → List (List ℕ) → ℕ → Type 0
-Crowded tb a first st n = Crowds SameWords [] (Reached tb a first) st n
 
 -- the first n of st are the sets that all words reach, each once, the empty word's first; and the next numbers are whole
 abbrev pub Charted : List ℕ → ℕ → List ℕ → List (List ℕ) → ℕ → List ℕ → Type 0

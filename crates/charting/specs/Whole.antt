@@ -15,6 +15,7 @@ held ls a st b nx = record { labels = take a ls; records = take b st; nexts = ta
 abbrev pub reader : List (List ℕ) → List ℕ → Reader
 reader st nx = record { next = λ q s. after nx q s; says = λ q. breached st q }
 
+-- a filled chart is a whole one, as the specification has it
 abbrev pub FilledChartsAreWhole : Type 0
 FilledChartsAreWhole =
     (f : Formula) (ks : List Formula) → ListsKept f ks → length ks ≤ 32
@@ -26,6 +27,7 @@ WholeChartsRead =
     (f : Formula) (ks : List Formula) (ls : List ℕ) (a : ℕ) (st : List (List ℕ)) (b : ℕ) (nx : List ℕ)
     → Whole f ks (held ls a st b nx) → slice_index ls 0 ≡ 0 → Reads f (reader st nx)
 
+-- a filled chart reads its formula
 abbrev pub FilledChartsRead : Type 0
 FilledChartsRead =
     (f : Formula) (ks : List Formula) → ListsKept f ks → length ks ≤ 32

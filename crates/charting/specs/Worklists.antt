@@ -18,6 +18,7 @@ pub record LetterRow {X : Type 0} (d : X) (In : List ℕ → X → Type 0) (more
   pub below : (s : ℕ) → s < b → slice_index nx (q * 256 + s) < n
   pub names : (s : ℕ) → s < b → (u : List ℕ) → In u (slice_index_or xs q d) → In (more s u) (slice_index_or xs (slice_index nx (q * 256 + s)) d)
 
+-- the first m rows name, for each letter, what is reached by one letter more
 pub record LetterRows {X : Type 0} (d : X) (In : List ℕ → X → Type 0) (more : ℕ → List ℕ → List ℕ) (xs : List X) (n : ℕ) (nx : List ℕ) (m : ℕ) : Type 0 where
   pub at : (q : ℕ) → q < m → LetterRow d In more xs n nx q 256
 

@@ -12,10 +12,11 @@ use Rattle.charting.specs.Filled.{Filling, FillingOnce, Refusing, areas_of}
 abbrev pub areas : Chart → Areas
 areas c = areas_of c.labels.now c.standings.now c.next.now
 
--- a chart that is ready with so many labels and standings, and one that holds nothing
+-- a chart that is ready with so many labels and standings
 abbrev pub ReadyWith : ℕ × ℕ → Chart → Type 0
 ReadyWith p d = (d.label_count ≡ p.0) × (d.standing_count ≡ p.1) × (d.state ≡ Ready)
 
+-- a chart that holds nothing
 abbrev pub Emptied : Chart → Type 0
 Emptied d = (d.label_count ≡ 0) × (d.standing_count ≡ 0) × (d.state ≡ Blank)
 

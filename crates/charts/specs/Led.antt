@@ -13,6 +13,7 @@ use Rattle.charts.specs.declared.state.State.TheVariants.{Blank, Ready, Watching
 abbrev pub held_of : Chart → Held
 held_of d = held d.labels.now d.label_count d.standings.now d.standing_count d.next.now
 
+-- the state in the words of the specification
 abbrev pub mode_of : State → Mode
 mode_of Blank = blank
 mode_of Ready = ready

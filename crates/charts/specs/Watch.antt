@@ -9,19 +9,21 @@ use Rattle.charts.specs.declared.state.Event.{Event}
 use Rattle.charts.specs.declared.state.Event.TheVariants.{Begin, Scan}
 use Rattle.charting.specs.Filled.{after, breached}
 
--- how many standings a state needs at least, and how many it has at most
+-- how many standings a state needs at least
 abbrev pub least : State → ℕ
 least Blank = 0
 least Ready = 1
 least (Watching q) = q + 1
 least Broken = 1
 
+-- how many standings there are at most in a state
 abbrev pub most : State → ℕ
 most Blank = 0
 most Ready = 512
 most (Watching q) = 512
 most Broken = 512
 
+-- whether a state is that of a blank chart
 abbrev pub blank : State → Bool
 blank Blank = true
 blank Ready = false

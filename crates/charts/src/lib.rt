@@ -1,5 +1,5 @@
 // Charts: the labels and standings of a rule in lent areas, the watch that follows letters through them, and questions about them.
-// The exploration of machines and the printed report stand on it.
+// Finding breaches (`breaches`), the report (`report`) and lists of calls (`replay`) stand on it.
 #![tactic(auto)]
 
 pub mod chart;

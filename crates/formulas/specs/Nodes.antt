@@ -37,11 +37,12 @@ Placed k (Next a) = a < k
 Placed k (Until a b) = (a < k) × (b < k)
 Placed k (Release a b) = (a < k) × (b < k)
 
+-- at most 256 nodes, each behind its parts
 pub record Topological (ns : List Node) : Type 0 where
   pub few : length ns ≤ 256
   pub placed : (k : ℕ) → k < length ns → Placed k (slice_index_or ns k True)
 
--- one more than the greatest operand; a signal's number
+-- one more than the greatest operand
 abbrev pub reach : Node → ℕ
 reach True = 0
 reach False = 0
@@ -52,6 +53,7 @@ reach (Next a) = suc a
 reach (Until a b) = suc (max a b)
 reach (Release a b) = suc (max a b)
 
+-- a signal's number; 0 of other nodes
 abbrev pub signal_of : Node → ℕ
 signal_of True = 0
 signal_of False = 0
@@ -62,9 +64,10 @@ signal_of (Next a) = 0
 signal_of (Until a b) = 0
 signal_of (Release a b) = 0
 
--- operands stand before what they are operands of, and signals are among the eight: as an invariant can hold it
+-- operands stand before what they are operands of: as an invariant can hold it
 abbrev pub OperandsFirst : List Node → Type 0
 OperandsFirst ns = (k : ℕ) (d : Node) → k < length ns → reach (slice_index_or ns k d) ≤ k
 
+-- signals are among the eight: as an invariant can hold it
 abbrev pub SignalsSmall : List Node → Type 0
 SignalsSmall ns = (k : ℕ) (d : Node) → k < length ns → signal_of (slice_index_or ns k d) < 8

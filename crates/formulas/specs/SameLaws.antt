@@ -25,6 +25,7 @@ as_itself : (p : Bool) → beq p p ≡ true
 as_itself true = refl
 as_itself false = refl
 
+-- a node is the same as itself
 pub same_node_reflexive : (x : Node) → same_node x x ≡ true
 same_node_reflexive True = refl
 same_node_reflexive False = refl
@@ -35,6 +36,7 @@ same_node_reflexive (Next a) = eq-eqb a a refl
 same_node_reflexive (Until a b) = also a b a b refl refl
 same_node_reflexive (Release a b) = also a b a b refl refl
 
+-- nodes that are the same are equal
 pub same_nodes_are_equal : (x y : Node) → same_node x y ≡ true → x ≡ y
 same_nodes_are_equal True True e = refl
 same_nodes_are_equal False False e = refl
@@ -46,6 +48,7 @@ same_nodes_are_equal (Until a b) (Until c d) e = both (λ m n. Until m n) a b c 
 same_nodes_are_equal (Release a b) (Release c d) e = both (λ m n. Release m n) a b c d e
 same_nodes_are_equal _ _ e = absurd (false≢true e)
 
+-- being the same decides equality
 pub same_node_decides : (x y : Node) → Decides (same_node x y) (x ≡ y)
 same_node_decides x y = (same_nodes_are_equal x y, λ e. ap (same_node x) (sym e) ∙ same_node_reflexive x)
 
@@ -54,6 +57,7 @@ either true c f g = sym (f refl)
 either false true f g = g refl
 either false false f g = refl
 
+-- so it is symmetric and transitive, as a derived equality has to be
 pub same_node_laws : IsPartialEquivalence same_node
 same_node_laws = record {
   symm = λ x y.

@@ -11,11 +11,12 @@ abbrev pub Cut : ℕ → Text → Option (Bor Text × Bor Text) → Type 0
 Cut c t None = parted c t ≡ t ∷ []
 Cut c t (Some x) = (parted c t ≡ x.0.now ∷ parted c x.1.now) × (length x.1.now < length t)
 
--- two and three fields
+-- two fields
 abbrev pub Two : Text → Option (Bor Text × Bor Text) → Type 0
 Two t None = (a b : Text) → parted 44 t ≢ a ∷ (b ∷ [])
 Two t (Some x) = parted 44 t ≡ x.0.now ∷ (x.1.now ∷ [])
 
+-- three fields
 abbrev pub Three : Text → Option (Bor Text × Bor Text × Bor Text) → Type 0
 Three t None = (a b c : Text) → parted 44 t ≢ a ∷ (b ∷ (c ∷ []))
 Three t (Some x) = parted 44 t ≡ x.0.now ∷ (x.1.now ∷ (x.2.now ∷ []))
@@ -24,9 +25,11 @@ Three t (Some x) = parted 44 t ≡ x.0.now ∷ (x.1.now ∷ (x.2.now ∷ []))
 abbrev pub cap : ℕ → ℕ
 cap n = min 65536 n
 
+-- the number n with the digits of a text behind it, cut; none where a byte is no digit
 abbrev pub figure : ℕ → Text → Option ℕ
 figure n t = cond (all digit t) (Some (cap (value n t))) None
 
+-- an entry with its numbers cut
 abbrev pub capped : LineEntry → LineEntry
 capped (signals t) = signals t
 capped (rule t) = rule t

@@ -1,5 +1,5 @@
 // Lines of a file: where they end, of which kind they are, their fields and their numbers.
-// Loading (`loading`) stands on it.
+// Loading (`loading`) and the reading of logs (`logs`) stand on it.
 #![tactic(auto)]
 
 ghost use Rattle.std.specs.Prelude.{◌≡◌, ℕ, ◌+◌, ◌-◌, ◌*◌, ◌<◌, ◌≤◌, List, [], ◌∷◌, ◌++◌, length, Some, None, codes, ◌==◌, position};

@@ -18,11 +18,12 @@ abbrev pub Takes : Rooms → Content → Option Entry → Result (Unit {0}) Line
 Takes r c e (Ok u) s ls = SaidOfLine r c e None × Holds s ls true (added_if c e)
 Takes r c e (Err x) s ls = SaidOfLine r c e (Some x)
 
--- the same of an entry for the sheet, and of one for the table
+-- the same of an entry for the sheet
 abbrev pub TakesOnSheet : Rooms → Content → Entry → Result (Unit {0}) LineFault → Sheet → Type 0
 TakesOnSheet r c e (Ok u) s = SaidOfLine r c (placed c (Some e)) None × (placed c (Some e) ≡ Some e) × SheetIs (added c e).names (added c e).rules s
 TakesOnSheet r c e (Err x) s = SaidOfLine r c (placed c (Some e)) (Some x)
 
+-- the same of an entry for the table
 abbrev pub TakesOnTable : Rooms → Content → Entry → Result (Unit {0}) LineFault → Lines → Type 0
 TakesOnTable r c e (Ok u) ls = SaidOfLine r c (placed c (Some e)) None × (placed c (Some e) ≡ Some e) × (ls ≡ lines_in (added c e))
 TakesOnTable r c e (Err x) ls = SaidOfLine r c (placed c (Some e)) (Some x)

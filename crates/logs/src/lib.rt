@@ -1,4 +1,5 @@
 // A log of calls as text: its lines as calls, their answers as lines.
+// The program (`replay_log`) prints its answer.
 #![tactic(auto)]
 
 mod answers;

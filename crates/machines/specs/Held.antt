@@ -9,12 +9,15 @@ use Rattle.machines.specs.declared.records.Step.{Step}
 use Rattle.machines.specs.declared.table.Table.{Table}
 use Rattle.machines.specs.Rows.{state_lines, step_lines}
 
+-- the lines that a table holds
 abbrev pub held_lines : Table → Lines
 held_lines t = record { states = state_lines t.states.now t.state_count; steps = step_lines t.steps.now t.step_count }
 
+-- how many states and steps two areas have room for
 abbrev pub rooms_in : List State → List Step → Rooms
 rooms_in ss es = record { states = length ss; steps = length es }
 
+-- the room of a table's areas
 abbrev pub rooms_of : Table → Rooms
 rooms_of t = rooms_in t.states.now t.steps.now
 
@@ -22,10 +25,11 @@ rooms_of t = rooms_in t.states.now t.steps.now
 abbrev pub SameAreas : Table → Table → Type 0
 SameAreas old new = (rooms_of new ≡ rooms_of old) × (new.states.ghost_name ≡ old.states.ghost_name) × (new.steps.ghost_name ≡ old.steps.ghost_name)
 
--- one line more
+-- one state more
 abbrev pub with_state : Lines → Bool → ℕ → Lines
 with_state t start letter = record { states = t.states ++ (record { start = start; letter = letter } ∷ []); steps = t.steps }
 
+-- one step more
 abbrev pub with_step : Lines → ℕ → ℕ → Lines
 with_step t from to = record { states = t.states; steps = t.steps ++ (record { from = from; to = to } ∷ []) }
 

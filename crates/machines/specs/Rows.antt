@@ -5,9 +5,11 @@ use Rattle.meaning.specs.Kinds.{State as StateLine, Step as StepLine, starts_fro
 use Rattle.machines.specs.declared.records.State.{State}
 use Rattle.machines.specs.declared.records.Step.{Step}
 
+-- a record of no state
 abbrev pub blank_state : State
 blank_state = record { start = false; letter = 0; first_step = 0; step_count = 0; nth_start = 0 }
 
+-- a record of no step
 abbrev pub blank_step : Step
 blank_step = record { from = 0; to = 0 }
 
@@ -15,23 +17,27 @@ blank_step = record { from = 0; to = 0 }
 abbrev pub row : List State → ℕ → State
 row ss s = slice_index_or ss s blank_state
 
--- the line of a record
+-- the line of a state's record
 abbrev pub state_line : State → StateLine
 state_line x = record { start = x.start; letter = x.letter }
 
+-- the line of a step's record
 abbrev pub step_line : Step → StepLine
 step_line e = record { from = e.from; to = e.to }
 
--- the lines of the first n or m records
+-- the lines of the first n states
 abbrev pub state_lines : List State → ℕ → List StateLine
 state_lines ss n = map state_line (take n ss)
 
+-- the lines of the first m steps
 abbrev pub step_lines : List Step → ℕ → List StepLine
 step_lines es m = map step_line (take m es)
 
+-- the start whose number a record keeps
 abbrev pub start_at : State → ℕ
 start_at x = x.nth_start
 
+-- where a step leads
 abbrev pub end_of : Step → ℕ
 end_of e = e.to
 
@@ -50,20 +56,23 @@ stepped x m = record {
 abbrev pub Starts : List State → ℕ → ℕ → Type 0
 Starts ss n k = starts_from 0 (state_lines ss n) ≡ map start_at (take k ss)
 
+-- the letters of states are bytes
 abbrev pub Letters : List State → ℕ → Type 0
 Letters ss n = (s : ℕ) → s < n → (row ss s).letter < 256
 
--- steps lead to declared states, and from them
+-- steps lead to declared states
 abbrev pub Ends : List Step → ℕ → ℕ → Type 0
 Ends es n m = (i : ℕ) → i < m → (get_or es i blank_step).to < n
 
+-- steps leave declared states
 abbrev pub Sources : List Step → ℕ → ℕ → Type 0
 Sources es n m = (s : ℕ) → n ≤ s → steps_from (step_lines es m) s ≡ []
 
--- the steps of a state stand together, where its record says
+-- the steps of a state, as its record says, are among those held
 abbrev pub Within : List State → ℕ → ℕ → Type 0
 Within ss n m = (s : ℕ) → s < n → (row ss s).first_step + (row ss s).step_count ≤ m
 
+-- the steps of a state stand together, where its record says
 abbrev pub Together : List State → List Step → ℕ → ℕ → Type 0
 Together ss es n m = (s : ℕ) → s < n → steps_from (step_lines es m) s ≡ map end_of (take (row ss s).step_count (drop (row ss s).first_step es))
 

@@ -15,9 +15,11 @@ all_front P f d xs zero l h = tt
 all_front P f d [] (suc n) l h = tt
 all_front P f d (x ∷ xs) (suc n) l h = (h 0 (omega arith), all_front P f d xs n (omega arith) (λ i j. h (suc i) (omega arith)))
 
+-- as many lines as records
 pub length_front : {X Y : Type 0} (f : X → Y) (xs : List X) (n : ℕ) → n ≤ length xs → length (map f (take n xs)) ≡ n
 length_front f xs n l = omega (arith, length-map (take n xs) f, length-take n xs)
 
+-- what a table means keeps the laws
 pub tables_keep_laws : (t : Table) → Lawful (table_meaning (held_lines t))
 tables_keep_laws t =
     let n = length_front state_line t.states.now t.state_count t.states_within in

@@ -1,5 +1,5 @@
 // Machines: the trait with its seven questions; the table, the round of letters, the stuck layer over any machine.
-// Finding breaches stands on the trait, and loading on the table.
+// Finding breaches (`breaches`) and lists of calls (`replay`) stand on the trait, and loading (`loading`) on the table.
 #![tactic(auto)]
 
 pub mod lent;

@@ -19,7 +19,7 @@ use Rattle.meaning.specs.Charts.{WithinStanding, SameStanding}
 use Rattle.meaning.specs.Machines.{Meaning, Among}
 use Rattle.meaning.specs.Walks.{Steps, Walk, word, last, last_from, front, front_from, Breaking, Shorter, SamePair, ShorterFit, Pairs}
 use Rattle.meaning.specs.Right.{Searches}
-use Rattle.meaning.specs.Examples.{first_rule, second_rule, sample_machine, ShownExamples, ClearExamples}
+use Rattle.meaning.specs.Examples.{first_rule, second_rule, sample_machine}
 use Rattle.meaning.specs.Worked.{stuck_machine}
 use Rattle.meaning.proofs.OfBridges.{standings_as_lists}
 use Rattle.meaning.proofs.Determined.{pair_turn, pair_join}
@@ -365,9 +365,3 @@ stuck_refused w long = (
   ),
   refl,
 )
-
-pub shown_examples : ShownExamples
-shown_examples = record { shown_with_one = first_shown; refused_with_none = first_refused }
-
-pub clear_examples : ClearExamples
-clear_examples = record { clear_with_three = second_clear; four_states = λ w l. stuck_shown 1023 w (omega arith) (omega arith) }

@@ -1,13 +1,16 @@
 -- The worked rules and searches hold. Assumes nothing.
-use Rattle.std.proofs.Common.{refl, arith}
+use Rattle.std.proofs.Common.{◌≡◌, ℕ, List, [], ◌∷◌, refl, arith}
 use mathlib.Core.Bool.{false≢true}
-use Rattle.logic.specs.Formula.{on}
+use Rattle.logic.specs.Formula.{tru, on}
 use Rattle.logic.proofs.Examples.{examples}
 use Rattle.logic.proofs.Sat.{breach_is_sat}
 use Rattle.meaning.specs.Worked.{WorkedExamples}
-use Rattle.meaning.proofs.ByExample.{any_breach}
 use Rattle.meaning.proofs.OfBridges.{counted}
 use Rattle.meaning.proofs.BySearch.{first_shown, first_refused, second_pairs, second_clear, second_refused, stuck_shown, stuck_refused}
+
+any_breach : (w : List ℕ) → (w ≡ [] → ⊥) → Rattle.logic.specs.Witness.Breach tru w
+any_breach [] d = absurd (d refl)
+any_breach (s ∷ w) d = (breach_is_sat tru (s ∷ w)).1 refl
 
 pub worked_examples : WorkedExamples
 unfolding on

@@ -15,10 +15,9 @@ use Rattle.logic.specs.Counting.{Classes, Number}
 use Rattle.logic.proofs.Sat.{breach_is_sat}
 use Rattle.logic.proofs.Kept.{kept_listed}
 use Rattle.logic.proofs.Tables.{one_count}
-use Rattle.logic.proofs.Examples.{examples}
 use Rattle.meaning.specs.Charts.{SameLabel, WithinStanding, SameStanding}
 use Rattle.meaning.specs.Right.{Counted}
-use Rattle.meaning.specs.Bridges.{LabelsAsLists, StandingsAsLists, CountsAreUnique, CountedExamples}
+use Rattle.meaning.specs.Bridges.{LabelsAsLists, StandingsAsLists, CountsAreUnique}
 
 -- lists of tests that agree at each member
 map_from : {A : Type 0} (p q : A → Bool) (xs : List A) → ((x : A) → Memᴰ x xs → p x ≡ q x) → map p xs ≡ map q xs
@@ -112,17 +111,3 @@ counts_are_unique f m n c d =
 module _ (f : Formula) (m n : ℕ) where
   pub counted : Classes Letters (lists.SameLabel (kept f)) m → Classes Letters (lists.SameStanding (kept f) (Breach f)) n → Counted f (m, n)
   counted c d = (∣ label_classes f m c ∣₁, ∣ standing_classes f n d ∣₁)
-
-pub counted_examples : CountedExamples
-counted_examples =
-    let e = examples in
-    record {
-      always_kept = counted _ 1 1 e.one.labels_are e.one.standings_are;
-      never_kept = counted _ 2 2 e.two.labels_are e.two.standings_are;
-      not_both = counted _ 2 2 e.three.labels_are e.three.standings_are;
-      no_full_after_stop = counted _ 8 3 e.four.labels_are e.four.standings_are;
-      no_second_letter = counted _ 3 3 e.five.labels_are e.five.standings_are;
-      neither_now_nor_next = counted _ 6 4 e.six.labels_are e.six.standings_are;
-      first_stop = counted _ 2 3 e.seven.labels_are e.seven.standings_are;
-      stop_until_full = counted _ 2 3 e.eight.labels_are e.eight.standings_are;
-    }

@@ -170,7 +170,7 @@ all_end : {X : Type 0} (P : X → Type 0) (xs : List X) (x : X) → AllByRecursi
 all_end P [] x h p = (p, tt)
 all_end P (y ∷ ys) x h p = (h.0, all_end P ys x h.1 p)
 
-room_left : (n room : ℕ) → None ≡ cond (ltb n room) None (Some (Table NoRoom)) → n < room
+pub room_left : (n room : ℕ) → None ≡ cond (ltb n room) None (Some (Table NoRoom)) → n < room
 room_left n room h = go (ltb n room) refl h
   where
     go : (b : Bool) → ltb n room ≡ b → None ≡ cond b None (Some (Table NoRoom)) → n < room

@@ -1,19 +1,15 @@
 -- Worked examples, each by computing. Assumes nothing.
-use Rattle.std.specs.Prelude.{◌≡◌, ℕ, zero, suc, ◌≤◌, true, false, ◌≢◌, List, [], ◌∷◌, ◌++◌, length, Some, None, Ok, Err, codes, Option}
+use Rattle.std.specs.Prelude.{◌≡◌, ℕ, zero, suc, ◌≤◌, true, false, List, [], ◌∷◌, ◌++◌, length, Some, None, Ok, Err, codes, Option}
 use Rattle.meaning.specs.declared.refusals.RuleFault.TheVariants.{WrongWord, WordWanted, BytesFollow, TooDeep}
 use Rattle.meaning.specs.declared.refusals.SheetFault.TheVariants.{SheetFull}
 use Rattle.meaning.specs.declared.refusals.FittingFault.TheVariants.{TooLarge}
-use Rattle.meaning.specs.declared.refusals.SearchingFault.TheVariants.{PairsExceed}
-use Rattle.meaning.specs.declared.answers.Verdict.TheVariants.{Shown, Clear}
 use Rattle.logic.specs.Labels.{kept}
-use Rattle.logic.specs.Witness.{Breach}
-use Rattle.logic.specs.Rule.{Rule, rtrue, rfalse, name, not, rnext, globally, both, implies, runtil, negated}
+use Rattle.logic.specs.Rule.{Rule, name, not, rnext, globally, both, implies, negated}
 use Rattle.meaning.specs.Entering.{RightEntering}
 use Rattle.meaning.specs.Machines.{Meaning}
-use Rattle.meaning.specs.Right.{Searches}
 use Rattle.meaning.specs.Bytes.{Text, number}
 use Rattle.meaning.specs.Names.{fit}
-use Rattle.meaning.specs.Written.{written, Means}
+use Rattle.meaning.specs.Written.{written}
 use Rattle.meaning.specs.Faults.{text_fault}
 use Rattle.meaning.specs.Kinds.{table_meaning, stuck_meaning, fitting}
 use Rattle.meaning.specs.Files.{ended, cut, lines, content, lines_in, entry}
@@ -122,37 +118,14 @@ abbrev pub nexts : ℕ → Rule → Rule
 nexts zero r = r
 nexts (suc n) r = rnext (nexts n r)
 
--- rules, their kept formulas, and which words are breaches
+-- a rule of which too many formulas are kept, and one more rule than a sheet holds
 abbrev pub RuleExamples : Type 0
 RuleExamples = record {
-  means : Means two_names (codes "G -> stop X ! full") second_rule;
   -- 20 `X` before `stop`, 20 before `full`
   over_kept : length (kept (negated (both (nexts 20 (name 0)) (nexts 20 (name 1))))) ≡ 43;
   a_17th : (ts : List Text) → 16 ≤ length ts → RightEntering [] ts (codes "true") (Err SheetFull);
-  -- which words are breaches
-  never_kept : (w : List ℕ) → w ≢ [] → Breach (negated rfalse) w;
-  none_next : ¬ Breach (negated (not (rnext rtrue))) (0 ∷ []);
-  a_next : Breach (negated (not (rnext rtrue))) (0 ∷ (0 ∷ []));
-  stop_now : Breach (negated (both (not (name 0)) (not (rnext (name 1))))) (1 ∷ []);
-  not_yet : ¬ Breach (negated (both (not (name 0)) (not (rnext (name 1))))) (0 ∷ []);
-  full_next : Breach (negated (both (not (name 0)) (not (rnext (name 1))))) (0 ∷ (2 ∷ []));
-  until_broken : Breach (negated (runtil (name 0) (name 1))) (1 ∷ (0 ∷ []));
 }
 
--- searches over the sample file's table
+-- the machine of the sample file's table
 abbrev pub sample_machine : Meaning
 sample_machine = table_meaning (lines_in (content sample))
-
--- the first rule is shown with pair room 1 and refused with 0
-abbrev pub ShownExamples : Type 0
-ShownExamples = record {
-  shown_with_one : Searches (negated first_rule) sample_machine 1 (9 ∷ (9 ∷ (9 ∷ []))) (Ok (Shown 2), 0 ∷ (1 ∷ (9 ∷ [])));
-  refused_with_none : Searches (negated first_rule) sample_machine 0 (9 ∷ []) (Err PairsExceed, 9 ∷ []);
-}
-
--- the second is clear with pair room 3, and under the stuck layer on `stop` its shortest breach has 4 states
-abbrev pub ClearExamples : Type 0
-ClearExamples = record {
-  clear_with_three : Searches (negated second_rule) sample_machine 3 (9 ∷ (9 ∷ (9 ∷ (9 ∷ [])))) (Ok (Clear 3), 9 ∷ (9 ∷ (9 ∷ (9 ∷ []))));
-  four_states : (w : List ℕ) → 1024 ≤ length w → ∥ ((w' : List ℕ) × Searches (negated second_rule) (stuck_meaning sample_machine 0) 1023 w (Ok (Shown 4), w')) ∥₁;
-}

@@ -79,7 +79,7 @@ pub record LoadingRows (r : Rooms) (c : Content) (l : Line) : Type 0 where
 abbrev pub FittingRows : Type 0
 FittingRows = (m : Meaning) (signal : ℕ) → (fitting m signal ≡ Err TooLarge) ↔ LayerIsTooLarge m signal
 
--- all rows, after every history of right answers
+-- all rows, after every history; those of entering after every history of right answers
 pub record RefusalsHaveTheirRows : Type 0 where
   pub of_opening : (h : History) → OpeningRows h
   pub of_entering : (h : History) → AllRight h → (s : ℕ) (t : Text) → EnteringRows h s t

@@ -25,6 +25,7 @@ SamePair m r xs ys = (last xs ≡ last ys) × (standing_of m r xs ≡ standing_o
 abbrev pub Broken : Meaning → Reader → List ℕ → Type 0
 Broken m r xs = r.says (after r (word m xs)) ≡ true
 
+-- a walk after which the table says breach
 abbrev pub Breach : Meaning → Reader → List ℕ → Type 0
 Breach m r xs = Walk m xs × Broken m r xs
 
@@ -40,9 +41,11 @@ pub record Pairs (m : Meaning) (r : Reader) (P : List ℕ → Type 0) (n : ℕ) 
 abbrev pub Fit : Meaning → Reader → ℕ → (List ℕ → Type 0) → Type 0
 Fit m r room P = (n : ℕ) × (n ≤ room) × Pairs m r P n
 
+-- a walk has fewer than k states
 abbrev pub Shorter : ℕ → List ℕ → Type 0
 Shorter k ys = length ys < k
 
+-- any walk will do
 abbrev pub AnyWalk : List ℕ → Type 0
 AnyWalk ys = Unit {0}
 

@@ -23,25 +23,31 @@ Tried = ControlFlow ℕ (Unit {0})
 abbrev pub Found : Type 0
 Found = ControlFlow LastStep (Unit {0})
 
+-- an entry that holds nothing
 abbrev pub no_pair : Pair
 no_pair = record { state = 0; standing = 0; parent = 0; depth = 0 }
 
+-- the state of entry i
 abbrev pub state_at : List Pair → ℕ → ℕ
 state_at E i = (get_or E i no_pair).state
 
+-- the standing of entry i
 abbrev pub standing_at : List Pair → ℕ → ℕ
 standing_at E i = (get_or E i no_pair).standing
 
+-- the entry before entry i on its walk
 abbrev pub parent_at : List Pair → ℕ → ℕ
 parent_at E i = (get_or E i no_pair).parent
 
+-- how many states the walk to entry i has
 abbrev pub depth_at : List Pair → ℕ → ℕ
 depth_at E i = (get_or E i no_pair).depth
 
--- the standing that follows entry i, and whether a state t behind it ends a breach
+-- the standing that follows entry i
 abbrev pub next_at : Meaning → Reader → List Pair → ℕ → ℕ
 next_at m r E i = r.next (standing_at E i) (m.letter (state_at E i))
 
+-- whether the state t behind the standing q ends a breach
 abbrev pub bad : Meaning → Reader → ℕ → ℕ → Bool
 bad m r t q = r.says (r.next q (m.letter t))
 
@@ -84,17 +90,19 @@ pub record Grows (E : List Pair) (n : ℕ) (F : List Pair) (k : ℕ) : Type 0 wh
   pub same_length : length F ≡ length E
   pub stays : (i : ℕ) → i < n → slice_index_or F i no_pair ≡ slice_index_or E i no_pair
 
--- all starts are kept; no start is a breach
+-- all starts are kept
 abbrev pub StartsKept : Meaning → List Pair → ℕ → Type 0
 StartsKept m E n = (s : ℕ) → Among s m.starts → Has E n s 0
 
+-- no start is a breach
 abbrev pub StartsGood : Meaning → Reader → Type 0
 StartsGood m r = (s : ℕ) → Among s m.starts → bad m r s 0 ≡ false
 
--- all steps from entry i are kept; none of them ends a breach
+-- all steps from entry i are kept
 abbrev pub KeptFrom : Meaning → Reader → List Pair → ℕ → ℕ → Type 0
 KeptFrom m r E n i = (t : ℕ) → Among t (m.steps (state_at E i)) → Has E n t (next_at m r E i)
 
+-- no step from entry i ends a breach
 abbrev pub GoodFrom : Meaning → Reader → List Pair → ℕ → Type 0
 GoodFrom m r E i = (t : ℕ) → Among t (m.steps (state_at E i)) → bad m r t (next_at m r E i) ≡ false
 
@@ -149,6 +157,7 @@ pub record Left (m : Meaning) (r : Reader) (rows : ℕ) (E : List Pair) (k : Tal
   pub kept : k'.full ≡ false → KeptFrom m r F k'.count i
   pub good : GoodFrom m r F i
 
+-- what leaving entry i comes to: a breach is ended there, or it is left
 abbrev pub Leaves : Meaning → Reader → ℕ → List Pair → Tally → ℕ → List Pair → Tally → Found → Type 0
 Leaves m r rows E k i F k' (Break b) = (b.entry ≡ i) × Breaks m r rows E k i b.state F k'
 Leaves m r rows E k i F k' (Continue _) = Left m r rows E k i F k'
@@ -159,6 +168,7 @@ pub record LevelPart (m : Meaning) (r : Reader) (rows : ℕ) (E : List Pair) (k 
   pub kept : k'.full ≡ false → (i : ℕ) → low ≤ i → i < x → KeptFrom m r F k'.count i
   pub good : (i : ℕ) → low ≤ i → i < x → GoodFrom m r F i
 
+-- what leaving the entries from low on comes to
 abbrev pub Levels : Meaning → Reader → ℕ → List Pair → Tally → ℕ → List Pair → Tally → Found → Type 0
 Levels m r rows E k low F k' (Break b) = (low ≤ b.entry) × (b.entry < k.base) × Breaks m r rows E k b.entry b.state F k'
 Levels m r rows E k low F k' (Continue _) = LevelPart m r rows E k low k.base F k'
@@ -172,6 +182,7 @@ pub record Begun (m : Meaning) (r : Reader) (rows : ℕ) (E : List Pair) (F : Li
   pub kept : k.full ≡ false → StartsKept m F k.count
   pub good : StartsGood m r
 
+-- what trying the starts comes to
 abbrev pub Begins : Meaning → Reader → ℕ → List Pair → List Pair → Tally → Tried → Type 0
 Begins m r rows E F k (Break s) = Among s m.starts × (bad m r s 0 ≡ true)
 Begins m r rows E F k (Continue _) = Begun m r rows E F k
@@ -186,5 +197,6 @@ pub record Tries (m : Meaning) (r : Reader) (rows : ℕ) (E : List Pair) (k : Ta
   pub kept : k'.full ≡ false → (y : ℕ) → y < x → Has F k'.count (slice_index ts y) q
   pub good : (y : ℕ) → y < x → bad m r (slice_index ts y) q ≡ false
 
+-- where an exploration begins
 abbrev pub nothing_kept : Tally
 nothing_kept = record { base = 0; count = 0; full = false; depth = 1 }

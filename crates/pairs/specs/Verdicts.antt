@@ -17,12 +17,14 @@ pub record Shows (m : Meaning) (r : Reader) (room : ℕ) (before after : List �
   pub fit : Fit m r room (Shorter k)
   pub rest : drop k after ≡ drop k before
 
+-- no walk is a breach, and the pairs of all walks are n and fit; the walk area stays
 pub record Clears (m : Meaning) (r : Reader) (room : ℕ) (before after : List ℕ) (n : ℕ) : Type 0 where
   pub none : (ys : List ℕ) → Breach m r ys → ⊥
   pub few : n ≤ room
   pub pairs : Pairs m r AnyWalk n
   pub stays : after ≡ before
 
+-- neither is to be shown nor to be cleared; the walk area stays
 pub record Exceeds (m : Meaning) (r : Reader) (room : ℕ) (before after : List ℕ) : Type 0 where
   pub no_walk : Showable m r room → ⊥
   pub no_clear : Clearable m r room → ⊥

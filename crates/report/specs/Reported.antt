@@ -36,10 +36,11 @@ pub record Fresh (h : History) (s : Sheet) (t : Table) : Type 0 where
   pub unfilled : (c : ℕ) → filled_rule h c ≡ None
   pub unwatched : (c : ℕ) → watch h c ≡ None
 
--- the line of rule k, and the lines of the first n rules, after such a list
+-- the line of rule k after such a list
 abbrev pub RuleLed : Sheet → Table → ℕ → Text → Type 0
 RuleLed s t k out = (h : History) → Fresh h s t → PrintsRule h k out
 
+-- the lines of the first n rules after such a list
 abbrev pub RulesLed : Sheet → Table → ℕ → Text → Type 0
 RulesLed s t n out = (h : History) → Fresh h s t → PrintsRules h n 0 out
 

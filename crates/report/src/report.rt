@@ -40,7 +40,7 @@ fn write_look(
     RuleLine { rule, said }.write_to(text)
 }
 
-// Writes the line of a rule: a new chart is filled with it, and gone by if that is accepted.
+// Writes the line of a rule: a new chart is filled with it and, if that is accepted, the table is asked for a breach.
 fn write_rule(
     text: &mut String,
     heap: Global,

@@ -53,5 +53,6 @@ Entered ns ts t (Err e) s = SheetIs ns ts s
 abbrev pub EnteringIs : List Text → List Text → Text → Result ℕ SheetFault → Sheet → Type 0
 EnteringIs ns ts t r s = RightEntering ns ts t r × Entered ns ts t r s
 
+-- the answer is right after the history h, and the sheet is as the history with this call says
 abbrev pub EnteringLed : History → ℕ → Text → Result ℕ SheetFault → Sheet → Type 0
 EnteringLed h n t r s = Right h (entering n t) r × SheetLed (record { call = entering n t; answer = r } ∷ h) n s

@@ -5,6 +5,7 @@ use Rattle.meaning.specs.Bytes.{Text}
 use Rattle.texts.specs.Fit.{Fit}
 use Rattle.rules.specs.declared.names.Name.{Name}
 
+-- the letters that a name holds
 abbrev pub letters_of : Name → Text
 letters_of n = held n.letters
 

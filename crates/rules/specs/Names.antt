@@ -5,5 +5,6 @@ use Rattle.meaning.specs.Bytes.{Text}
 use Rattle.rules.specs.declared.names.Names.{Names}
 pub use Rattle.rules.specs.Letters.{letters_of}
 
+-- the names, each by its letters
 abbrev pub names_held : Names → List Text
 names_held ns = map letters_of (held ns.list)

@@ -2,15 +2,8 @@
 use Rattle.std.specs.Prelude.{◌≡◌, ℕ, ◌<◌, ◌≤◌, List, length, Some, None, Option, ◌≢◌, slice_index_or}
 use Rattle.logic.specs.Formula.{Formula, tru}
 use Rattle.formulas.specs.declared.node.Node.{Node}
-use Rattle.formulas.specs.Nodes.{made_of, reach, signal_of}
+use Rattle.formulas.specs.Nodes.{made_of, reach}
 use Rattle.texts.specs.Listed.{add, StandsAt}
-
--- operands stand before what they are operands of, and signals are among the eight
-abbrev pub OperandsBefore : List Node → Type 0
-OperandsBefore nodes = (i : ℕ) (d : Node) → i < length nodes → reach (slice_index_or nodes i d) ≤ i
-
-abbrev pub SignalsBelowEight : List Node → Type 0
-SignalsBelowEight nodes = (i : ℕ) (d : Node) → i < length nodes → signal_of (slice_index_or nodes i d) < 8
 
 -- a number, if there is one, is below n
 abbrev pub Below : Option ℕ → ℕ → Type 0
@@ -34,9 +27,10 @@ abbrev pub Interned : List Formula → Formula → Option ℕ → List Node → 
 Interned gs f (Some k) nodes = Means nodes (add f gs) × StandsAt (add f gs) f k
 Interned gs f None nodes = Means nodes gs × (256 < length (add f gs))
 
--- none of the nodes is x; number k is x
+-- none of the nodes is x
 abbrev pub Lacks : List Node → Node → Type 0
 Lacks xs x = (k : ℕ) (d : Node) → k < length xs → slice_index_or xs k d ≢ x
 
+-- number k of the nodes is x
 abbrev pub Finds : List Node → Node → ℕ → Type 0
 Finds xs x k = (k < length xs) × ((d : Node) → slice_index_or xs k d ≡ x)

@@ -8,6 +8,7 @@ use Rattle.rules.specs.declared.names.Name.{Name}
 use Rattle.rules.specs.declared.names.Names.{Names}
 use Rattle.rules.specs.Names.{letters_of, names_held}
 
+-- the answer says whether all bytes of a word are lowercase letters
 abbrev pub AllLower : Bool → Text → Type 0
 AllLower true w = AllByRecursion Lower w
 AllLower false w = AllByRecursion Lower w → ⊥

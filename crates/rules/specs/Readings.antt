@@ -15,12 +15,13 @@ use Rattle.texts.specs.Parse.{parse}
 use Rattle.texts.specs.Listed.{added, StandsAt}
 use Rattle.rules.specs.Nodes.{Means, Below}
 
--- the node of a leaf, and of a leaf under `!`
+-- the node of a leaf
 abbrev pub positive_node : Leaf → Node
 positive_node True = N.True
 positive_node False = N.False
 positive_node (Name i) = N.Signal i true
 
+-- the node of a leaf under `!`
 abbrev pub negated_node : Leaf → Node
 negated_node True = N.False
 negated_node False = N.True
@@ -34,6 +35,7 @@ binary_node Implies a b = N.Or a b
 binary_node Until a b = N.Until a b
 binary_node Release a b = N.Release a b
 
+-- the formula of two operands; `a -> b` is the `|` of the readings of its operands
 abbrev pub binary_formula : Binary → Formula → Formula → Formula
 binary_formula And a b = and a b
 binary_formula Or a b = or a b

@@ -6,6 +6,7 @@ use Rattle.formulas.specs.declared.node.Node.{Node}
 use Rattle.rules.specs.declared.store.Store.{Store}
 use Rattle.rules.specs.Nodes.{Below, Means, Longer}
 
+-- the nodes that a store holds
 abbrev pub nodes_held : Store → List Node
 nodes_held s = held s.nodes
 

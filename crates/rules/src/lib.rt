@@ -1,5 +1,5 @@
 // A sheet: its names, and its rules as breach formulas in normal form.
-// Loading opens sheets and enters rules, and charts are filled from the breach formulas.
+// Loading (`loading`) and lists of calls (`replay`) open sheets and enter rules, and charts (`charts`) are filled from the breach formulas.
 #![tactic(auto)]
 
 mod entering;

@@ -1,6 +1,6 @@
 // The formulas of a sheet.
 ghost use Rattle.fixed.specs.Held.{held};
-ghost use Rattle.rules.specs.Nodes.{OperandsBefore, SignalsBelowEight};
+ghost use Rattle.formulas.specs.Nodes.{OperandsFirst, SignalsSmall};
 
 use fixed::FixedList;
 use formulas::node::Node;
@@ -14,6 +14,6 @@ pub mod intern;
 #[derive(Clone, Copy)]
 pub struct Store {
     nodes: FixedList<Node, 256>,
-    ghost ordered: { OperandsBefore (held nodes) },
-    ghost signals: { SignalsBelowEight (held nodes) },
+    ghost ordered: { OperandsFirst (held nodes) },
+    ghost signals: { SignalsSmall (held nodes) },
 }

@@ -16,14 +16,16 @@ abbrev pub AcceptedTextsMeanRules : Type 0
 AcceptedTextsMeanRules = (ns : List Text) (full : Bool) (gs : List Formula) (text : Text) (f : Formula) → judged ns full gs text ≡ Ok f
     → (r : Rule) × Means ns text r × (f ≡ negated r) × (full ≡ false) × (length (added gs f) ≤ 256) × (length (kept f) ≤ 32)
 
+-- a text that means a rule is taken where there is room and at most 32 formulas are kept
 abbrev pub RulesWithRoomAreAccepted : Type 0
 RulesWithRoomAreAccepted = (ns : List Text) → Fit ns → (gs : List Formula) (text : Text) (r : Rule) → Means ns text r → length (added gs (negated r)) ≤ 256 → length (kept (negated r)) ≤ 32
     → judged ns false gs text ≡ Ok (negated r)
 
--- 7 and 6 are answered only to texts that mean a rule
+-- 7 is answered to a text that means a rule, where its formulas and those of before are over 256
 abbrev pub Over256FormulasAreRefused : Type 0
 Over256FormulasAreRefused = (ns : List Text) → Fit ns → (full : Bool) (gs : List Formula) (text : Text) (r : Rule) → Means ns text r → 256 < length (added gs (negated r)) → judged ns full gs text ≡ Err S.SheetFull
 
+-- 6 is answered to a text that means a rule, where there is room and over 32 formulas are kept
 abbrev pub Over32KeptAreRefused : Type 0
 Over32KeptAreRefused = (ns : List Text) → Fit ns → (gs : List Formula) (text : Text) (r : Rule) → Means ns text r → length (added gs (negated r)) ≤ 256 → 32 < length (kept (negated r)) → judged ns false gs text ≡ Err S.OverKept
 

@@ -26,5 +26,6 @@ pub record WrongAt (ns : List Text) (total d : ℕ) (w : Text) (p : ℕ) : Type 
   pub wrong : word_of ns (take (length_to 32 rest) rest) ≡ None
   pub begins : Begins ns d before
 
+-- where a wrong word is told, what stands before it begins a rule
 abbrev pub WrongWordsFollowABeginning : Type 0
 WrongWordsFollowABeginning = (ns : List Text) (total d : ℕ) (w : Text) (p : ℕ) → parse ns total d w ≡ Err (WrongWord p) → WrongAt ns total d w p

@@ -34,11 +34,12 @@ abbrev pub Ends : Text → Type 0
 Ends [] = Unit {0}
 Ends (b ∷ bs) = b ≡ 32
 
--- reading finds what is written, and only that
+-- what is read is what is written there
 abbrev pub WhatIsReadIsWritten : Type 0
 WhatIsReadIsWritten = (ns : List Text) (total d : ℕ) (w : Text) (r : Rule) (rest : Text) → parse ns total d w ≡ Ok (r, rest)
     → (w ≡ written ns r ++ rest) × (depth r ≤ d) × Named (length ns) r × Ends rest
 
+-- what is written is read
 abbrev pub WhatIsWrittenIsRead : Type 0
 WhatIsWrittenIsRead = (ns : List Text) → Fit ns → (total d : ℕ) (r : Rule) (rest : Text) → Named (length ns) r → depth r ≤ d → Ends rest
     → parse ns total d (written ns r ++ rest) ≡ Ok (r, rest)

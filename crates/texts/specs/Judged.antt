@@ -25,6 +25,7 @@ read_rule ns text = ended (length text) (parse ns (length text) 32 text)
 abbrev pub judge : Bool → List Formula → Formula → Result Formula SheetFault
 judge full gs f = cond (full || nat_lt 256 (length (added gs f))) (Err S.SheetFull) (cond (nat_lt 32 (length (kept f))) (Err S.OverKept) (Ok f))
 
+-- what a rule's negated reading is judged to be; a fault of its text goes first
 abbrev pub judge_rule : Bool → List Formula → Result Rule RuleFault → Result Formula SheetFault
 judge_rule full gs (Err e) = Err (S.Rule e)
 judge_rule full gs (Ok r) = judge full gs (negated r)

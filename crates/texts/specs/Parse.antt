@@ -15,11 +15,12 @@ use Rattle.texts.specs.Shapes.{leaf, unary, binary}
 abbrev pub Parsed : Type 0
 Parsed = Result (Rule × Text) RuleFault
 
--- what is read behind an operator of one operand, and behind the first operand of one with two
+-- what is read behind an operator of one operand
 abbrev pub unary_parsed : Unary → Parsed → Parsed
 unary_parsed o (Ok x) = Ok (unary o x.0, x.1)
 unary_parsed o (Err e) = Err e
 
+-- what is read behind the first operand of an operator with two
 abbrev pub binary_parsed : Binary → Rule → Parsed → Parsed
 binary_parsed o f (Ok x) = Ok (binary o f x.0, x.1)
 binary_parsed o f (Err e) = Err e

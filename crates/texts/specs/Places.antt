@@ -8,6 +8,7 @@ abbrev pub length_to : ℕ → Text → ℕ
 length_to stop [] = 0
 length_to stop (b ∷ bs) = cond (b == stop) 0 (length_to stop bs + 1)
 
+-- one place later, if there is one
 abbrev pub one_later : Option ℕ → Option ℕ
 one_later None = None
 one_later (Some i) = Some (i + 1)

@@ -11,18 +11,20 @@ use Rattle.texts.specs.declared.words.Binary.TheVariants.{And, Or, Implies, Unti
 use Rattle.texts.specs.declared.words.Word.{Word}
 use Rattle.texts.specs.declared.words.Word.TheVariants.{Zero, One, Two}
 
--- the rule of a word and its operands
+-- the rule of a word without operands
 abbrev pub leaf : Leaf → Rule
 leaf True = rtrue
 leaf False = rfalse
 leaf (Name i) = name i
 
+-- the rule of an operator and its operand
 abbrev pub unary : Unary → Rule → Rule
 unary Not a = not a
 unary Next a = rnext a
 unary Finally a = finally a
 unary Globally a = globally a
 
+-- the rule of an operator and its two operands
 abbrev pub binary : Binary → Rule → Rule → Rule
 binary And a b = both a b
 binary Or a b = either a b
@@ -45,12 +47,13 @@ spelled ns (Two Implies) = codes "->"
 spelled ns (Two Until) = codes "U"
 spelled ns (Two Release) = codes "V"
 
--- a word that is a name is one of n
+-- a leaf that is a name is one of n
 abbrev pub LeafNamed : ℕ → Leaf → Type 0
 LeafNamed n True = Unit {0}
 LeafNamed n False = Unit {0}
 LeafNamed n (Name i) = i < n
 
+-- a word that is a name is one of n
 abbrev pub WordNamed : ℕ → Word → Type 0
 WordNamed n (Zero l) = LeafNamed n l
 WordNamed n (One o) = Unit {0}

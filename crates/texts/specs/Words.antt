@@ -73,6 +73,7 @@ WordAbove d (Zero l) = Unit {0}
 WordAbove d (One o) = 0 < d
 WordAbove d (Two o) = 0 < d
 
+-- an operator that is answered stands above depth 0
 abbrev pub Above : ℕ → Result (Word × Bor Text) RuleFault → Type 0
 Above d (Ok x) = WordAbove d x.0
 Above d (Err e) = Unit {0}
