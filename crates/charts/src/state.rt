@@ -1,7 +1,7 @@
 // Where a chart is, and what its watch can be told.
 
 // A watch follows letters from standing to standing until they are a breach.
-#[derive(Clone, Copy, Debug, PartialEq, Eq)]
+#[derive(Clone, Copy)]
 pub enum State {
     // not filled
     Blank,
@@ -13,7 +13,7 @@ pub enum State {
     Broken,
 }
 
-#[derive(Clone, Copy, Debug, PartialEq, Eq)]
+#[derive(Clone, Copy)]
 pub(crate) enum Event {
     Begin,
     Scan { letter: u8 },

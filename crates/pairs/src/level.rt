@@ -2,7 +2,7 @@
 use std::ops::ControlFlow;
 
 // A step that ends a breach: the entry that it leaves, and the state that it leads to.
-#[derive(Clone, Copy, Debug, PartialEq, Eq)]
+#[derive(Clone, Copy)]
 pub struct LastStep {
     pub entry: usize,
     pub state: usize,

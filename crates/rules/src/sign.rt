@@ -8,7 +8,7 @@ use formulas::node::Node;
 use texts::words::{Binary, Leaf};
 
 // Negated: what is stored is the negation of what is read.
-#[derive(Clone, Copy, Debug, PartialEq, Eq)]
+#[derive(Clone, Copy)]
 pub enum Sign {
     Positive,
     Negated,

@@ -1,14 +1,14 @@
 // What a word of a rule text can be.
 
 // A word with no operand; a name goes by its number.
-#[derive(Clone, Copy, Debug, PartialEq, Eq)]
+#[derive(Clone, Copy)]
 pub enum Leaf {
     True,
     False,
     Name(u8),
 }
 
-#[derive(Clone, Copy, Debug, PartialEq, Eq)]
+#[derive(Clone, Copy)]
 pub enum Unary {
     Not,
     Next,
@@ -16,7 +16,7 @@ pub enum Unary {
     Globally,
 }
 
-#[derive(Clone, Copy, Debug, PartialEq, Eq)]
+#[derive(Clone, Copy)]
 pub enum Binary {
     And,
     Or,
@@ -26,7 +26,7 @@ pub enum Binary {
 }
 
 // A word, by its number of operands.
-#[derive(Clone, Copy, Debug, PartialEq, Eq)]
+#[derive(Clone, Copy)]
 pub enum Word {
     Zero(Leaf),
     One(Unary),
