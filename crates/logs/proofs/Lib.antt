@@ -1,4 +1,5 @@
 pub mod NewObjects
+pub mod OfLines
 pub mod PlayedBack
 pub mod ReadLines
 pub mod ReadWords

@@ -1,4 +1,5 @@
 pub mod Fresh
+pub mod Lines
 pub mod NoMachine
 pub mod Reads
 pub mod Replays

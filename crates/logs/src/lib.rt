@@ -3,6 +3,7 @@
 #![tactic(auto)]
 
 mod answers;
+pub mod claims;
 mod entries;
 mod fields;
 mod machine;

@@ -1,5 +1,5 @@
 -- A line has an entry exactly where it writes it. Assumes nothing.
-use Rattle.std.proofs.Common.{◌≡◌, ℕ, ◌≤◌, Bool, true, false, cond, not, eqb, leb, List, [], ◌∷◌, ◌++◌, Some, None, Option, codes, sym, refl, ap, ◌∙◌, subst, ap₂, arith}
+use Rattle.std.proofs.Common.{◌≡◌, ℕ, ◌<◌, ◌≤◌, Bool, true, false, cond, not, eqb, leb, List, [], ◌∷◌, ◌++◌, Some, None, Option, codes, sym, refl, ap, ◌∙◌, subst, ap₂, arith}
 use Rattle.std.proofs.lemmas.Bool.{and_parts, eqb-true, leb-true, ne_eqb}
 use Rattle.std.specs.Str.{bytes_eq}
 use Rattle.meaning.specs.Bytes.{Text, all, parted, after, digit, plain, number, value}
@@ -8,12 +8,12 @@ use Rattle.meaning.specs.Entries.{Writes, LinesHaveTheirEntries}
 use Rattle.meaning.proofs.OfHistories.{some_same}
 use Rattle.meaning.proofs.OfWords.{parted_at, lacks, parted_whole, joined, joined_parted, same_true}
 
-no_some : {X : Type 0} (x : X) → ◌≡◌ {A = Option X} None (Some x) → ⊥
+pub no_some : {X : Type 0} (x : X) → ◌≡◌ {A = Option X} None (Some x) → ⊥
 no_some x e = grind arith
 
 -- ---- what follows a word
 
-after_is : (p t r : Text) → after p t ≡ Some r → t ≡ p ++ r
+pub after_is : (p t r : Text) → after p t ≡ Some r → t ≡ p ++ r
 after_is [] t r e = some_same t r e
 after_is (p ∷ ps) [] r e = absurd (no_some r e)
 after_is (p ∷ ps) (b ∷ bs) r e = go (eqb b p) refl e (after_is ps bs r)
@@ -22,17 +22,17 @@ after_is (p ∷ ps) (b ∷ bs) r e = go (eqb b p) refl e (after_is ps bs r)
     go true s k rest = ap₂ ◌∷◌ (eqb-true b p s) (rest k)
     go false s k rest = absurd (no_some r k)
 
--- ---- numbers have no commas
+-- ---- numbers have digits alone, so no commas
 
-digit_no_comma : (b : ℕ) → digit b ≡ true → not (eqb b 44) ≡ true
-digit_no_comma b h =
+digit_apart : (c b : ℕ) → c < 48 → digit b ≡ true → not (eqb b c) ≡ true
+digit_apart c b low h =
     let k = and_parts (leb 48 b) _ h in
     let far : 48 ≤ b = leb-true 48 b k.0 in
-    rw (ne_eqb b 44 (λ e. omega (arith, e, far))) refl
+    rw (ne_eqb b c (λ e. omega (arith, e, far, low))) refl
 
-digits_lack : (t : Text) → all digit t ≡ true → lacks 44 t ≡ true
-digits_lack [] h = refl
-digits_lack (b ∷ bs) h = let k = and_parts (digit b) _ h in rw (digit_no_comma b k.0) (digits_lack bs k.1)
+digits_lack : (c : ℕ) (t : Text) → c < 48 → all digit t ≡ true → lacks c t ≡ true
+digits_lack c [] low h = refl
+digits_lack c (b ∷ bs) low h = let k = and_parts (digit b) _ h in rw (digit_apart c b low k.0) (digits_lack c bs low k.1)
 
 plain_digits : (t : Text) → plain t ≡ true → all digit t ≡ true
 plain_digits [] h = refl
@@ -42,18 +42,18 @@ plain_digits (b ∷ (c ∷ cs)) h =
     let j = and_parts (not (eqb b 48)) _ k.1 in
     rw k.0 j.1
 
-number_lacks : (t : Text) (n : ℕ) → number t ≡ Some n → lacks 44 t ≡ true
-number_lacks t n e = go (plain t) refl e
+pub number_lacks : (c : ℕ) (t : Text) (n : ℕ) → c < 48 → number t ≡ Some n → lacks c t ≡ true
+number_lacks c t n low e = go (plain t) refl e
   where
-    go : (b : Bool) → plain t ≡ b → cond b (Some (value 0 t)) None ≡ Some n → lacks 44 t ≡ true
-    go true s k = digits_lack t (plain_digits t s)
+    go : (b : Bool) → plain t ≡ b → cond b (Some (value 0 t)) None ≡ Some n → lacks c t ≡ true
+    go true s k = digits_lack c t low (plain_digits t s)
     go false s k = absurd (no_some n k)
 
 two_parts : (x y : Text) (n m : ℕ) → number x ≡ Some n → number y ≡ Some m → parted 44 (x ++ (44 ∷ y)) ≡ x ∷ (y ∷ [])
-two_parts x y n m i j = parted_at 44 x y ∙ ap₂ ◌++◌ (parted_whole 44 x (number_lacks x n i)) (parted_whole 44 y (number_lacks y m j))
+two_parts x y n m i j = parted_at 44 x y ∙ ap₂ ◌++◌ (parted_whole 44 x (number_lacks 44 x n (omega arith) i)) (parted_whole 44 y (number_lacks 44 y m (omega arith) j))
 
 three_parts : (x y z : Text) (n m k : ℕ) → number x ≡ Some n → number y ≡ Some m → number z ≡ Some k → parted 44 (x ++ (44 ∷ (y ++ (44 ∷ z)))) ≡ x ∷ (y ∷ (z ∷ []))
-three_parts x y z n m k h i j = parted_at 44 x (y ++ (44 ∷ z)) ∙ ap₂ ◌++◌ (parted_whole 44 x (number_lacks x n h)) (two_parts y z m k i j)
+three_parts x y z n m k h i j = parted_at 44 x (y ++ (44 ∷ z)) ∙ ap₂ ◌++◌ (parted_whole 44 x (number_lacks 44 x n (omega arith) h)) (two_parts y z m k i j)
 
 -- ---- what is written is the entry
 
