@@ -1,8 +1,11 @@
-// What the tests share: a sheet, areas for charts, and answers with the numbers of their refusals.
+// What the tests share: a sheet, areas for charts, answers with the numbers of their refusals, and what is printed.
 use charts::chart::Chart;
 use meaning::refusals::Refusal;
 use rules::sheet::Sheet;
+use std::alloc::Global;
+use std::fmt::Display;
 use std::process::Abort;
+use std::test::Fail;
 
 // A sheet with the names `stop,full` and one rule.
 pub(crate) fn sheet_of(rt: &impl Abort, rule: &[u8]) -> Sheet {
@@ -42,4 +45,17 @@ impl<const LABELS: usize, const STANDINGS: usize, const NEXT: usize> Areas<
 // The answer, with the number of the refusal for its fault.
 pub(crate) fn numbered<T, F: Refusal>(answer: Result<T, F>) -> Result<T, u8> {
     answer.map_err(|fault| fault.number())
+}
+
+// A value that is printed so.
+pub(crate) fn assert_prints<D: Display + Drop>(
+    rt: &impl Abort,
+    heap: Global,
+    value: D,
+    wanted: &str,
+    why: &str,
+) -> Result<(), Fail> {
+    let text = format!(in heap; "{value}")?;
+    assert_eq!(rt; text.as_str(), wanted, "{why}");
+    Ok(())
 }

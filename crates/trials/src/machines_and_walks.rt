@@ -1,6 +1,6 @@
 // What is refused before a machine is looked at, and a pile of stuck layers.
-use crate::areas::{Areas, numbered, sheet_of};
-use crate::told::assert_told;
+use crate::areas::{Areas, assert_prints, numbered, sheet_of};
+use crate::told::Asked;
 use breaches::find::find_breach;
 use charts::chart::Chart;
 use machines::round::Round;
@@ -91,5 +91,10 @@ fn piles_of_stuck_layers(rt: HostRuntime) -> Result<(), Fail> {
         ; 1: start -, letter 2, steps 0: - -\
         ; 15: start -, letter 131, steps 0: - -\
         ; 16: start -, letter -, steps -: - -";
-    assert_told(&rt, rt.alloc(), &pile, &[0, 1, 15, 16], &[7, 8], told)
+    let asked = Asked {
+        machine: &pile,
+        numbers: &[0, 1, 15, 16],
+        steps: &[7, 8],
+    };
+    assert_prints(&rt, rt.alloc(), asked, told, "three layers over a round")
 }

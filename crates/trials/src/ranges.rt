@@ -1,12 +1,11 @@
 // The questions of machines at the ends of their ranges and past them, and the lines that a table refuses.
-use crate::areas::numbered;
-use crate::told::{assert_told, has_no_states};
+use crate::areas::{assert_prints, numbered};
+use crate::told::{Asked, has_no_states};
 use machines::machine::Machine;
 use machines::records::{State, Step};
 use machines::round::Round;
 use machines::stuck::StuckLayer;
 use machines::table::Table;
-use std::alloc::Global;
 use std::process::Abort;
 use std::test::Fail;
 
@@ -17,8 +16,18 @@ fn a_round_at_its_ends(rt: HostRuntime) -> Result<(), Fail> {
         ; 0: start 0, letter 3, steps 1: 1 -\
         ; 1: start -, letter 5, steps 0: - -\
         ; 2: start -, letter -, steps -: - -";
-    assert_told(&rt, rt.alloc(), &round, &[0, 1, 2], &[0, 1], told)?;
-    assert_told(&rt, rt.alloc(), &&round, &[0, 1, 2], &[0, 1], told)
+    let asked = Asked {
+        machine: &round,
+        numbers: &[0, 1, 2],
+        steps: &[0, 1],
+    };
+    assert_prints(&rt, rt.alloc(), asked, told, "a round")?;
+    let asked = Asked {
+        machine: &&round,
+        numbers: &[0, 1, 2],
+        steps: &[0, 1],
+    };
+    assert_prints(&rt, rt.alloc(), asked, told, "a lent round")
 }
 
 #[test]
@@ -98,7 +107,12 @@ fn a_table_at_its_ends(rt: HostRuntime) -> Result<(), Fail> {
         ; 1: start 2, letter 8, steps 2: 0 2 -\
         ; 2: start -, letter 9, steps 0: - - -\
         ; 3: start -, letter -, steps -: - - -";
-    assert_told(&rt, rt.alloc(), &table, &[0, 1, 2, 3], &[0, 1, 2], told)?;
+    let asked = Asked {
+        machine: &table,
+        numbers: &[0, 1, 2, 3],
+        steps: &[0, 1, 2],
+    };
+    assert_prints(&rt, rt.alloc(), asked, told, "a full table")?;
     table.clear();
     assert!(rt; has_no_states(&table));
     Ok(())
@@ -118,12 +132,9 @@ fn add_steps(rt: &impl Abort, table: &mut Table, count: usize) {
     }
 }
 
-#[test]
-fn a_table_up_to_its_limits(rt: HostRuntime) -> Result<(), Fail> {
-    let mut states = [State::BLANK; 4097];
-    let mut steps = [Step::BLANK; 16385];
-    let mut table = Table::new(&mut states, &mut steps);
-    add_states(&rt, &mut table, 4096);
+// Adds as many states and steps as a table takes, and finds that it takes no more.
+fn fill_to_limits(rt: &impl Abort, table: &mut Table) {
+    add_states(rt, table, 4096);
     let of_states = [
         (Line::State(4096, true, 1), 19, "4,096 states are there"),
         (
@@ -132,90 +143,100 @@ fn a_table_up_to_its_limits(rt: HostRuntime) -> Result<(), Fail> {
             "the form goes before the room",
         ),
     ];
-    add_refused(&rt, &mut table, &of_states);
-    add_steps(&rt, &mut table, 16384);
+    add_refused(rt, table, &of_states);
+    add_steps(rt, table, 16384);
     let of_steps = [(Line::Step(4095, 0), 19, "16,384 steps are there")];
-    add_refused(&rt, &mut table, &of_steps);
+    add_refused(rt, table, &of_steps);
+}
+
+#[test]
+fn a_table_up_to_its_limits(rt: HostRuntime) -> Result<(), Fail> {
+    let mut states = [State::BLANK; 4097];
+    let mut steps = [Step::BLANK; 16385];
+    let mut table = Table::new(&mut states, &mut steps);
+    fill_to_limits(&rt, &mut table);
     assert_eq!(rt; (table.states(), table.steps()), (4096, 16384));
     let told = "count 4096, width 32768, starts 4096\
         ; 4095: start 4095, letter 1, steps 16384: 4095 -\
         ; 4096: start -, letter -, steps -: - -";
-    assert_told(
-        &rt,
-        rt.alloc(),
-        &table,
-        &[4095, 4096],
-        &[16383, 16384],
-        told,
-    )
+    let asked = Asked {
+        machine: &table,
+        numbers: &[4095, 4096],
+        steps: &[16383, 16384],
+    };
+    assert_prints(&rt, rt.alloc(), asked, told, "the last state and step")
+}
+
+// A layer with this answer to whether it fits, so many states, and such a width.
+fn assert_layer<M: Machine>(
+    rt: &impl Abort,
+    layer: &StuckLayer<M>,
+    fitting: Result<(), u8>,
+    count: usize,
+    width: usize,
+) {
+    let found = (numbered(layer.fitting()), layer.count(), layer.width());
+    assert_eq!(rt; found, (fitting, count, width));
 }
 
 #[test]
 fn a_layer_at_its_ends(rt: HostRuntime) -> Result<(), Fail> {
     let round = Round::new(b"\x00\x02");
     let layer = StuckLayer::new(&round, 7);
-    assert_eq!(rt; numbered(layer.fitting()), Ok(()));
+    assert_layer(&rt, &layer, Ok(()), 4, 2);
     let told = "count 4, width 2, starts 1\
         ; 0: start 0, letter 0, steps 2: 1 3 -\
         ; 1: start -, letter 2, steps 0: - - -\
         ; 2: start -, letter 128, steps 1: 3 - -\
         ; 3: start -, letter 130, steps 0: - - -\
         ; 4: start -, letter -, steps -: - - -";
-    assert_told(&rt, rt.alloc(), &layer, &[0, 1, 2, 3, 4], &[0, 1, 2], told)
+    let asked = Asked {
+        machine: &layer,
+        numbers: &[0, 1, 2, 3, 4],
+        steps: &[0, 1, 2],
+    };
+    assert_prints(&rt, rt.alloc(), asked, told, "a layer over a round")
 }
 
 // A layer that is refused, and has no states.
-fn assert_beyond<M: Machine>(rt: &impl Abort, layer: &StuckLayer<M>, why: &str) {
-    let found = (
-        numbered(layer.fitting()),
-        layer.width(),
-        has_no_states(layer),
-    );
-    assert_eq!(rt; found, (Err(20), 0, true), "{why}");
+fn assert_beyond<M: Machine>(rt: &impl Abort, layer: &StuckLayer<M>) {
+    assert_layer(rt, layer, Err(20), 0, 0);
+    assert!(rt; has_no_states(layer));
 }
 
 #[test]
-fn a_layer_that_does_not_fit(rt: HostRuntime) {
+fn a_signal_that_does_not_fit(rt: HostRuntime) {
     let round = Round::new(b"\x00\x02");
-    assert_beyond(&rt, &StuckLayer::new(&round, 8), "signal 8");
-    let round = Round::new(&[0; 32769]);
-    assert_beyond(&rt, &StuckLayer::new(&round, 0), "32,769 states");
+    assert_beyond(&rt, &StuckLayer::new(&round, 8));
 }
 
 #[test]
-fn a_layer_that_just_fits(rt: HostRuntime) {
-    let round = Round::new(&[0; 32768]);
-    let layer = StuckLayer::new(&round, 0);
-    assert_eq!(rt; (numbered(layer.fitting()), layer.count()), (Ok(()), 65536));
+fn a_layer_up_to_its_limit(rt: HostRuntime) {
+    let most = Round::new(&[0; 32768]);
+    assert_layer(&rt, &StuckLayer::new(&most, 0), Ok(()), 65536, 2);
+    // One state too many.
+    let more = Round::new(&[0; 32769]);
+    assert_beyond(&rt, &StuckLayer::new(&more, 0));
 }
 
-// Two more layers over a machine with a width of 524,288: the first still fits.
-fn assert_last_layers<M: Machine>(rt: &impl Abort, heap: Global, below: &M) -> Result<(), Fail> {
-    let five = StuckLayer::new(below, 4);
-    assert_eq!(rt; numbered(five.fitting()), Ok(()));
-    assert_told(
-        rt,
-        heap,
-        &five,
-        &[],
-        &[],
-        "count 32, width 1048576, starts 1",
-    )?;
-    assert_beyond(rt, &StuckLayer::new(&five, 5), "a width of 1,048,576");
-    Ok(())
+// Two more layers over a machine with a width of 524,288: the first still fits, and has a width of 1,048,576.
+fn assert_last_layers<M: Machine>(rt: &impl Abort, four: &M) {
+    let five = StuckLayer::new(four, 4);
+    assert_layer(rt, &five, Ok(()), 32, 1048576);
+    assert_beyond(rt, &StuckLayer::new(&five, 5));
 }
 
 // Four layers over a table, and two over these.
-fn assert_six_layers<M: Machine>(rt: &impl Abort, heap: Global, two: &M) -> Result<(), Fail> {
+fn assert_six_layers<M: Machine>(rt: &impl Abort, two: &M) {
     let four = StuckLayer::new(StuckLayer::new(two, 2), 3);
-    assert_last_layers(rt, heap, &four)
+    assert_last_layers(rt, &four);
 }
 
 #[test]
-fn a_pile_too_wide(rt: HostRuntime) -> Result<(), Fail> {
+fn a_pile_too_wide(rt: HostRuntime) {
     let mut states = [State::BLANK; 1];
     let mut table = Table::new(&mut states, &mut []);
     add_states(&rt, &mut table, 1);
     let two = StuckLayer::new(StuckLayer::new(&table, 0), 1);
-    assert_six_layers(&rt, rt.alloc(), &two)
+    assert_six_layers(&rt, &two);
 }

@@ -1,9 +1,6 @@
 // What a machine answers to its seven questions, as text.
 use machines::machine::Machine;
-use std::alloc::Global;
 use std::fmt;
-use std::process::Abort;
-use std::test::Fail;
 
 // A number, or `-` where there is none.
 #[derive(Clone, Copy)]
@@ -43,17 +40,17 @@ impl<M: Machine> fmt::Display for AnswersAt<'_, M> {
     }
 }
 
-// The three counts, and what is answered at each of the given numbers.
+// Asks a machine for its three counts, for the starts and states of the given numbers, and for their steps of the given numbers.
 #[derive(Drop)]
-struct Answers<'a, M> {
-    machine: &'a M,
-    numbers: &'a [usize],
-    steps: &'a [usize],
+pub(crate) struct Asked<'a, M> {
+    pub(crate) machine: &'a M,
+    pub(crate) numbers: &'a [usize],
+    pub(crate) steps: &'a [usize],
 }
 
-impl<M: Machine> fmt::Display for Answers<'_, M> {
+impl<M: Machine> fmt::Display for Asked<'_, M> {
     fn fmt<W: fmt::Write>(&self, f: &mut fmt::Formatter<W>) -> fmt::Result {
-        let Answers {
+        let Asked {
             machine,
             numbers,
             steps,
@@ -74,27 +71,6 @@ impl<M: Machine> fmt::Display for Answers<'_, M> {
         }
         Ok(())
     }
-}
-
-// Asks for the starts and states of the given numbers, and for their steps of the given numbers.
-pub(crate) fn assert_told<M: Machine>(
-    rt: &impl Abort,
-    heap: Global,
-    machine: &M,
-    numbers: &[usize],
-    steps: &[usize],
-    wanted: &str,
-) -> Result<(), Fail> {
-    let text = format!(in heap;
-        "{}",
-        Answers {
-            machine,
-            numbers,
-            steps
-        }
-    )?;
-    assert_eq!(rt; text.as_str(), wanted);
-    Ok(())
 }
 
 // A machine without states has no answer to any question.
