@@ -18,3 +18,5 @@ mod machines_and_walks;
 mod ranges;
 #[cfg(test)]
 mod sheets;
+#[cfg(test)]
+mod told;
