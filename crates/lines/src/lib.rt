@@ -8,7 +8,7 @@ ghost use Rattle.meaning.specs.Files.{mapped, entry, of_fields, signals, rule};
 ghost use Rattle.lines.specs.Fields.{Cut, Two, Three, figure, cap, capped, fields_of, shown};
 
 // What a line says; numbers above 65,536 are taken for 65,536.
-#[derive(Clone, Copy, Debug, PartialEq, Eq)]
+#[derive(Clone, Copy)]
 pub enum Entry<'a> {
     Signals(&'a [u8]),
     Rule(&'a [u8]),
