@@ -2,6 +2,7 @@
 #![tactic(auto)]
 
 mod answers;
+mod areas;
 mod entries;
 mod fields;
 mod machine;
