@@ -3,12 +3,12 @@
 #![tactic(auto)]
 
 ghost use Rattle.std.specs.Prelude.{◌≡◌, ℕ, ◌+◌, ◌-◌, ◌*◌, ◌<◌, ◌≤◌, List, [], ◌∷◌, ◌++◌, length, Some, None, codes, ◌==◌, position};
-ghost use Rattle.meaning.specs.Bytes.{after, number};
-ghost use Rattle.meaning.specs.Files.{mapped, entry, signals, rule};
+ghost use Rattle.meaning.specs.Bytes.{after, number, parted};
+ghost use Rattle.meaning.specs.Files.{mapped, entry, of_fields, signals, rule};
 ghost use Rattle.lines.specs.Fields.{Cut, Two, Three, figure, cap, capped, fields_of, shown};
 
 // What a line says; numbers above 65,536 are taken for 65,536.
-#[derive(Clone, Copy, Debug, PartialEq, Eq)]
+#[derive(Clone, Copy)]
 pub enum Entry<'a> {
     Signals(&'a [u8]),
     Rule(&'a [u8]),
@@ -99,13 +99,11 @@ fn rule_entry(line: &[u8]) -> Option<Entry<'_>>
     }
 }
 
-fn state_entry(line: &[u8]) -> Option<Entry<'_>>
-    ensures { mapped shown result ≡ mapped capped (fields_of (codes "state") (after (codes "state,") line.now)) }
+// The entry behind the word `state`.
+fn state_fields(text: &[u8]) -> Option<Entry<'_>>
+    ensures { mapped shown result ≡ mapped capped (of_fields (codes "state" ∷ parted 44 text.now)) }
 {
-    let [b's', b't', b'a', b't', b'e', b',', rest @ ..] = line else {
-        return None;
-    };
-    let (number, start, letter) = three(rest)?;
+    let (number, start, letter) = three(text)?;
     Some(Entry::State {
         number: read_number(number)?,
         start: read_number(start)?,
@@ -113,17 +111,33 @@ fn state_entry(line: &[u8]) -> Option<Entry<'_>>
     })
 }
 
-fn step_entry(line: &[u8]) -> Option<Entry<'_>>
-    ensures { mapped shown result ≡ mapped capped (fields_of (codes "step") (after (codes "step,") line.now)) }
+fn state_entry(line: &[u8]) -> Option<Entry<'_>>
+    ensures { mapped shown result ≡ mapped capped (fields_of (codes "state") (after (codes "state,") line.now)) }
 {
-    let [b's', b't', b'e', b'p', b',', rest @ ..] = line else {
-        return None;
-    };
-    let (from, to) = two(rest)?;
+    match line {
+        [b's', b't', b'a', b't', b'e', b',', fields @ ..] => state_fields(fields),
+        _ => None,
+    }
+}
+
+// The entry behind the word `step`.
+fn step_fields(text: &[u8]) -> Option<Entry<'_>>
+    ensures { mapped shown result ≡ mapped capped (of_fields (codes "step" ∷ parted 44 text.now)) }
+{
+    let (from, to) = two(text)?;
     Some(Entry::Step {
         from: read_number(from)?,
         to: read_number(to)?,
     })
+}
+
+fn step_entry(line: &[u8]) -> Option<Entry<'_>>
+    ensures { mapped shown result ≡ mapped capped (fields_of (codes "step") (after (codes "step,") line.now)) }
+{
+    match line {
+        [b's', b't', b'e', b'p', b',', fields @ ..] => step_fields(fields),
+        _ => None,
+    }
 }
 
 // What the line says, if it says anything.

@@ -1,6 +1,5 @@
 -- New objects are as the empty history says, and have the rooms that are promised. Assumes nothing.
-use Rattle.std.proofs.Common.{◌≡◌, ℕ, zero, suc, List, [], ◌∷◌, ◌++◌, length, Some, None, Ok, Err, Result, IfOk, MatchResult, slice_get, refl, ap, subst, ◌∙◌}
-use Rattle.meaning.specs.Files.{Rooms}
+use Rattle.std.proofs.Common.{◌≡◌, ℕ, zero, suc, List, [], ◌∷◌, ◌++◌, Some, None, Ok, Err, Result, IfOk, MatchResult, slice_get, refl, ap, subst, ◌∙◌}
 use Rattle.meaning.specs.Kinds.{no_lines}
 use Rattle.meaning.specs.Printed.{table_rooms, chart_areas}
 use Rattle.meaning.specs.Machines.{Meaning, Lawful}
@@ -39,12 +38,6 @@ if_ok_then (Err e) f p = tt
 pub if_matched : {X E : Type 0} {P R : X → Type 0} (Q : E → Type 0) (r : Result X E) → ((x : X) → P x → R x) → MatchResult r P Q → IfOk r R
 if_matched Q (Ok x) f p = f x p
 if_matched Q (Err e) f p = tt
-
-pub rooms_are : (a b : ℕ) → a ≡ 256 → b ≡ 1024 → (let r : Rooms = record { states = a; steps = b } in r) ≡ table_rooms
-rooms_are a b i j = simp (i, j) refl
-
-pub areas_are : (d : Chart) → length d.labels.now ≡ 512 → length d.standings.now ≡ 32 → length d.next.now ≡ 8192 → areas d ≡ chart_areas
-areas_are d i j k = simp (i, j, k) refl
 
 -- ---- the tables
 

@@ -1,3 +1,4 @@
+pub mod Sizes
 pub mod Fresh
 pub mod Lines
 pub mod NoMachine

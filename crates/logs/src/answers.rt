@@ -3,9 +3,9 @@ ghost use Rattle.std.specs.Prelude.{[], IfOk};
 ghost use Rattle.replay.specs.Replayed.{RightAnswers};
 ghost use Rattle.logs.specs.Fresh.{AllBlank, AllNew, with_two_sheets, with_tables, new_objects};
 
+use crate::areas::{ChartAreas, TableAreas};
 use charts::chart::Chart;
 use machines::machine::Machine;
-use machines::records::{State, Step};
 use machines::table::Table;
 use replay::answer::Answer;
 use replay::call::Call;
@@ -34,23 +34,11 @@ fn answer_on<M: Machine>(
 ) -> Result<Vec<Answer>, AllocError>
     ensures { AllBlank tables.old → IfOk result (λ v. RightAnswers M.Machine.meaning M.Machine.lawful (with_tables tables.old) [] calls.now v.items) }
 {
-    let mut labels = vec![in heap; 0; 512]?;
-    let mut standings = vec![in heap; [0; 8]; 32]?;
-    let mut next = vec![in heap; 0; 8192]?;
-    let mut more_labels = vec![in heap; 0; 512]?;
-    let mut more_standings = vec![in heap; [0; 8]; 32]?;
-    let mut more_next = vec![in heap; 0; 8192]?;
+    let mut first = ChartAreas::new(heap)?;
+    let mut second = ChartAreas::new(heap)?;
     let mut charts = Vec::new(heap);
-    charts.push(Chart::new(
-        labels.as_mut_slice(),
-        standings.as_mut_slice(),
-        next.as_mut_slice(),
-    ))?;
-    charts.push(Chart::new(
-        more_labels.as_mut_slice(),
-        more_standings.as_mut_slice(),
-        more_next.as_mut_slice(),
-    ))?;
+    charts.push(first.chart())?;
+    charts.push(second.chart())?;
     answer_with(heap, calls, tables, charts.as_mut_slice())
 }
 
@@ -61,12 +49,10 @@ pub(crate) fn answer_all<M: Machine>(
 ) -> Result<Vec<Answer>, AllocError>
     ensures { IfOk result (λ v. RightAnswers M.Machine.meaning M.Machine.lawful new_objects [] calls.now v.items) }
 {
-    let mut states = vec![in heap; State::BLANK; 256]?;
-    let mut steps = vec![in heap; Step::BLANK; 1024]?;
-    let mut more_states = vec![in heap; State::BLANK; 256]?;
-    let mut more_steps = vec![in heap; Step::BLANK; 1024]?;
+    let mut first = TableAreas::new(heap)?;
+    let mut second = TableAreas::new(heap)?;
     let mut tables = Vec::new(heap);
-    tables.push(Table::new(states.as_mut_slice(), steps.as_mut_slice()))?;
-    tables.push(Table::new(more_states.as_mut_slice(), more_steps.as_mut_slice()))?;
+    tables.push(first.table())?;
+    tables.push(second.table())?;
     answer_on(heap, calls, tables.as_mut_slice())
 }

@@ -3,6 +3,7 @@
 #![tactic(auto)]
 
 mod answers;
+mod areas;
 pub mod claims;
 mod entries;
 mod fields;

@@ -14,7 +14,7 @@ use machines::table::Table;
 use std::alloc::{AllocError, Global};
 
 // Where to look: over which chart and machine, and in areas of how many entries.
-#[derive(Clone, Copy)]
+#[derive(Drop)]
 pub(crate) struct Wanted<'a, M> {
     pub(crate) chart: usize,
     pub(crate) machine: &'a Pile<M>,

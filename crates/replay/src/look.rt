@@ -15,7 +15,7 @@ use pairs::pair::Pair;
 use std::alloc::{AllocError, Global};
 
 // How to look for a breach: over which chart, and in areas of how many entries.
-#[derive(Clone, Copy)]
+#[derive(Drop)]
 pub(crate) struct Look<'a> {
     pub(crate) heap: Global,
     pub(crate) chart: &'a Chart<'a>,
