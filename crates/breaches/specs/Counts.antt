@@ -5,7 +5,7 @@ use Rattle.pairs.specs.Stages.{Tally, StageOf}
 use Rattle.breaches.specs.declared.kept.KeptPairs.{KeptPairs}
 use Rattle.breaches.specs.Charts.{reader_of, standings_of}
 
--- how far the pairs kept say that an exploration has come
+-- how far an exploration has come, by the pairs that it keeps
 abbrev pub tally_of : KeptPairs → Tally
 tally_of k = record { base = k.base; count = k.list.len; full = k.full; depth = k.depth }
 

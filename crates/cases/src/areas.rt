@@ -2,7 +2,7 @@
 use charts::chart::Chart;
 use std::alloc::{AllocError, Global};
 
-// Kept: `trials` has one too, since a shared one would be a library that allocates, which a rule of the project excludes.
+// Kept: `logs` has one like it, with areas of its own lengths; a shared one would be a library that allocates, which a rule of the project excludes.
 #[derive(Drop)]
 pub(crate) struct Areas {
     labels: Vec<u32>,

@@ -15,14 +15,16 @@ made_of fs (Next a) = next (slice_index_or fs a tru)
 made_of fs (Until a b) = until (slice_index_or fs a tru) (slice_index_or fs b tru)
 made_of fs (Release a b) = release (slice_index_or fs a tru) (slice_index_or fs b tru)
 
+-- the formulas fs of the nodes before, and behind them those of further nodes
 unfoldable pub grown : List Formula → List Node → List Formula
 grown fs [] = fs
 grown fs (n ∷ ns) = grown (fs ++ (made_of fs n ∷ [])) ns
 
--- the formulas of all nodes, and of one
+-- the formulas of all nodes
 unfoldable pub formulas : List Node → List Formula
 formulas ns = grown [] ns
 
+-- the formula of node k
 unfoldable pub formula : List Node → ℕ → Formula
 formula ns k = slice_index_or (formulas ns) k tru
 
@@ -37,12 +39,12 @@ Placed k (Next a) = a < k
 Placed k (Until a b) = (a < k) × (b < k)
 Placed k (Release a b) = (a < k) × (b < k)
 
--- at most 256 nodes, each behind its parts
+-- at most 256 nodes, each behind its parts, and signals are among the eight
 pub record Topological (ns : List Node) : Type 0 where
   pub few : length ns ≤ 256
   pub placed : (k : ℕ) → k < length ns → Placed k (slice_index_or ns k True)
 
--- one more than the greatest operand
+-- one more than the greatest operand; 0 where there is none
 abbrev pub reach : Node → ℕ
 reach True = 0
 reach False = 0

@@ -1,4 +1,4 @@
--- Parts of a text at a byte, and entries with their numbers cut at 65,536. Assumes nothing.
+-- Parts of a text at a byte, and entries with their numbers capped at 65,536. Assumes nothing.
 use Rattle.std.specs.Prelude.{◌≡◌, ℕ, ◌<◌, min, cond, [], ◌∷◌, length, Some, None, Option, ◌≢◌, option_and_then}
 use Rattle.std.specs.Borrow.{Bor}
 use Rattle.meaning.specs.Bytes.{Text, parted, all, digit, value}
@@ -6,7 +6,7 @@ use Rattle.meaning.specs.Files.{Entry as LineEntry, signals, rule, state, step, 
 use Rattle.lines.specs.declared.Entry.{Entry}
 use Rattle.lines.specs.declared.Entry.TheVariants.{Signals, Rule, State, Step}
 
--- at the first c, if there is one
+-- a text cut at the first c, if there is one
 abbrev pub Cut : ℕ → Text → Option (Bor Text × Bor Text) → Type 0
 Cut c t None = parted c t ≡ t ∷ []
 Cut c t (Some x) = (parted c t ≡ x.0.now ∷ parted c x.1.now) × (length x.1.now < length t)
@@ -25,11 +25,11 @@ Three t (Some x) = parted 44 t ≡ x.0.now ∷ (x.1.now ∷ (x.2.now ∷ []))
 abbrev pub cap : ℕ → ℕ
 cap n = min 65536 n
 
--- the number n with the digits of a text behind it, cut; none where a byte is no digit
+-- the number n with the digits of a text behind it, capped at 65,536; none where a byte is no digit
 abbrev pub figure : ℕ → Text → Option ℕ
 figure n t = cond (all digit t) (Some (cap (value n t))) None
 
--- an entry with its numbers cut
+-- an entry with its numbers capped at 65,536
 abbrev pub capped : LineEntry → LineEntry
 capped (signals t) = signals t
 capped (rule t) = rule t

@@ -3,7 +3,7 @@ use Rattle.std.specs.Prelude.{◌≡◌, ◌↔◌, ◌∷◌, ◌++◌, Some, c
 use Rattle.meaning.specs.Bytes.{Text}
 use Rattle.logs.specs.Told.{Base, on_table, on_round, on_another, Told, opens, enters, loads, fills, begins, scans, finds, small, byte, bytes, unfolded, call}
 
--- the text writes what a machine stands on
+-- the text writes what a machine stands on; none writes another machine
 abbrev pub WritesBase : Base → Text → Type 0
 WritesBase (on_table n) t = (x : Text) × (t ≡ codes "table," ++ x) × (small x ≡ Some n)
 WritesBase (on_round w) t = (x : Text) × (t ≡ codes "round," ++ x) × (bytes x ≡ Some w)

@@ -64,7 +64,7 @@ Letters ss n = (s : ℕ) → s < n → (row ss s).letter < 256
 abbrev pub Ends : List Step → ℕ → ℕ → Type 0
 Ends es n m = (i : ℕ) → i < m → (get_or es i blank_step).to < n
 
--- steps leave declared states
+-- steps come from declared states
 abbrev pub Sources : List Step → ℕ → ℕ → Type 0
 Sources es n m = (s : ℕ) → n ≤ s → steps_from (step_lines es m) s ≡ []
 

@@ -3,7 +3,7 @@ use Rattle.std.specs.Prelude.{◌≡◌, ◌↔◌, ◌∷◌, ◌++◌, Some, c
 use Rattle.meaning.specs.Bytes.{Text, number}
 use Rattle.meaning.specs.Files.{Entry, signals, rule, state, step, entry}
 
--- the line t writes the entry: its word, and behind commas what it holds; byte 44 is the comma
+-- the line t writes the entry: its word, and behind commas what it holds; byte 44 is the comma. This is the form alone: which numbers are good, and in which order lines come, says `in_place` (`Files`)
 abbrev pub Writes : Entry → Text → Type 0
 Writes (signals names) t = t ≡ codes "signals," ++ names
 Writes (rule text) t = t ≡ codes "rule," ++ text

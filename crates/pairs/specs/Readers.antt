@@ -45,7 +45,7 @@ Fit m r room P = (n : ℕ) × (n ≤ room) × Pairs m r P n
 abbrev pub Shorter : ℕ → List ℕ → Type 0
 Shorter k ys = length ys < k
 
--- any walk will do
+-- no bound: every walk
 abbrev pub AnyWalk : List ℕ → Type 0
 AnyWalk ys = Unit {0}
 

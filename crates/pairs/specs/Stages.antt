@@ -197,6 +197,6 @@ pub record Tries (m : Meaning) (r : Reader) (rows : ℕ) (E : List Pair) (k : Ta
   pub kept : k'.full ≡ false → (y : ℕ) → y < x → Has F k'.count (slice_index ts y) q
   pub good : (y : ℕ) → y < x → bad m r (slice_index ts y) q ≡ false
 
--- where an exploration begins
+-- how far an exploration has come before it keeps a pair
 abbrev pub nothing_kept : Tally
 nothing_kept = record { base = 0; count = 0; full = false; depth = 1 }

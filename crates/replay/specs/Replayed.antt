@@ -31,7 +31,7 @@ with_answer (Ok c) a h = with_given c (given c a) h
 with_answer (Err why) a h = h
 
 -- after every list of calls that led to the objects o the answer is right, and with it the objects are o'; they keep their areas, on the same loans.
--- Where no call is made they are equal
+-- Where no call is made, o' is o
 pub record StepLed (c : Result Meant Answer) (a : Answer) (o o' : Objects) : Type 0 where
   pub same : lent o' ≡ lent o
   pub on_loan : loans o' ≡ loans o

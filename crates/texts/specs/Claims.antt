@@ -11,7 +11,7 @@ use Rattle.texts.specs.Fit.{Fit, Ends}
 use Rattle.texts.specs.Listed.{added}
 use Rattle.texts.specs.Judged.{judged}
 
--- a text is taken exactly where it means a rule, there is room, and at most 32 formulas are kept; what is taken is the rule's negated reading
+-- a text that is taken means a rule, there is room, and at most 32 formulas are kept; what is taken is the rule's negated reading
 abbrev pub AcceptedTextsMeanRules : Type 0
 AcceptedTextsMeanRules = (ns : List Text) (full : Bool) (gs : List Formula) (text : Text) (f : Formula) → judged ns full gs text ≡ Ok f
     → (r : Rule) × Means ns text r × (f ≡ negated r) × (full ≡ false) × (length (added gs f) ≤ 256) × (length (kept f) ≤ 32)

@@ -67,13 +67,13 @@ abbrev pub Heads : List Text → ℕ → ℕ → Text → Result (Word × Bor Te
 Heads ns total d w (Ok x) = heads ns total d w ≡ Ok (x.0, x.1.now)
 Heads ns total d w (Err e) = heads ns total d w ≡ Err e
 
--- an operator stands above depth 0
+-- an operator needs that some depth is left
 abbrev pub WordAbove : ℕ → Word → Type 0
 WordAbove d (Zero l) = Unit {0}
 WordAbove d (One o) = 0 < d
 WordAbove d (Two o) = 0 < d
 
--- an operator that is answered stands above depth 0
+-- an operator is answered only where some depth is left
 abbrev pub Above : ℕ → Result (Word × Bor Text) RuleFault → Type 0
 Above d (Ok x) = WordAbove d x.0
 Above d (Err e) = Unit {0}
