@@ -1,6 +1,7 @@
 // The three areas of a chart, as large as a chart can use.
 use charts::chart::Chart;
 
+// Kept: `trials` has one too, of any size; a library for the two would hold nothing else.
 #[derive(Drop)]
 pub(crate) struct Areas {
     labels: [u32; 512],
