@@ -1,25 +1,21 @@
 // The three areas of a chart, as large as a chart can use.
 use charts::chart::Chart;
-use std::alloc::{AllocError, Global};
 
-// Kept: `logs` has one like it, with areas of its own lengths; a shared one would be a library that allocates, which a rule of the project excludes.
+// Kept: `trials` has one too, of any size; a library for the two would hold nothing else.
 #[derive(Drop)]
 pub(crate) struct Areas {
-    labels: Vec<u32>,
-    standings: Vec<[u64; 8]>,
-    next: Vec<u16>,
+    labels: [u32; 512],
+    standings: [[u64; 8]; 512],
+    next: [u16; 131072],
 }
 
 impl Areas {
-    pub(crate) fn new(heap: Global) -> Result<Areas, AllocError> {
-        let labels = vec![in heap; 0u32; 512]?;
-        let standings = vec![in heap; [0u64; 8]; 512]?;
-        let next = vec![in heap; 0u16; 131072]?;
-        Ok(Areas {
-            labels,
-            standings,
-            next,
-        })
+    pub(crate) fn new() -> Areas {
+        Areas {
+            labels: [0; 512],
+            standings: [[0; 8]; 512],
+            next: [0; 131072],
+        }
     }
 
     // A blank chart over the areas.

@@ -1,8 +1,7 @@
 // Breaches of tables and rounds, under up to three stuck layers, with a given pair room.
 use crate::areas::Areas;
-use crate::machine::{add_states, add_steps, bytes_of};
-use crate::sheets::{field, sheet_of};
-use anyhow::anyhow;
+use crate::machine::{add_all, bytes_of, halves};
+use crate::sheets::{field, fill};
 use breaches::find::find_breach;
 use charts::chart::Chart;
 use machines::machine::Machine;
@@ -13,7 +12,7 @@ use machines::table::Table;
 use meaning::answers::Verdict;
 use meaning::refusals::{Refusal, SearchingFault};
 use pairs::pair::Pair;
-use std::alloc::{AllocError, Global};
+use std::alloc::Global;
 use std::fmt;
 
 // An answer, as it is written in a line.
@@ -44,22 +43,21 @@ struct Question<'a> {
 
 impl Question<'_> {
     // Looks with room for at most 1,000 pairs, and a walk area longer by one.
-    fn look<M: Machine>(&self, machine: &M) -> Result<Answer, AllocError> {
+    fn look<M: Machine>(&self, machine: &M) -> Answer {
         let room = self.room.min(1000);
-        let mut pairs = vec![in self.heap; Pair::BLANK; room]?;
-        let mut walk = vec![in self.heap; 0; room + 1]?;
-        let answer = find_breach(
+        let mut pairs = [Pair::BLANK; 1000];
+        let mut walk = [0; 1001];
+        Answer(find_breach(
             self.chart,
             machine,
-            pairs.as_mut_slice(),
-            walk.as_mut_slice(),
-        );
-        Ok(Answer(answer))
+            &mut pairs[..room],
+            &mut walk[..room + 1],
+        ))
     }
 
     // Looks under the stuck layers, the lowest signal first.
     // Kept: one arm for each height, since a recursion over `&dyn Machine` gets no proof, and one over a type parameter has no last type.
-    fn look_under_layers<M: Machine>(&self, machine: &M) -> Result<Answer, AllocError> {
+    fn look_under_layers<M: Machine>(&self, machine: &M) -> Answer {
         match self.signals {
             [] => self.look(machine),
             [a] => self.look(&StuckLayer::new(machine, *a)),
@@ -73,46 +71,48 @@ impl Question<'_> {
 
     fn of_round(&self, letters: &str) -> anyhow::Result<Answer> {
         let letters = bytes_of(self.heap, letters, '/')?;
-        Ok(self.look_under_layers(&Round::new(letters.as_slice()))?)
+        Ok(self.look_under_layers(&Round::new(letters.as_slice())))
     }
 
     fn of_table(&self, states: &str, steps: &str) -> anyhow::Result<Answer> {
-        let mut state_area = vec![in self.heap; State::BLANK; 256]?;
-        let mut step_area = vec![in self.heap; Step::BLANK; 1024]?;
-        let mut table = Table::new(state_area.as_mut_slice(), step_area.as_mut_slice());
-        add_states(&mut table, states)?;
-        add_steps(&mut table, steps)?;
-        Ok(self.look_under_layers(&table)?)
+        let mut states_area = [State::BLANK; 256];
+        let mut steps_area = [Step::BLANK; 1024];
+        let mut table = Table::new(&mut states_area, &mut steps_area);
+        add_all(&mut table, states)?;
+        add_all(&mut table, steps)?;
+        Ok(self.look_under_layers(&table))
     }
 
     // The answer over the machine of a line: `round LETTERS`, or `table STATES STEPS`.
     fn of_machine(&self, machine: &str) -> anyhow::Result<Answer> {
-        if let Some(letters) = machine.strip_prefix("round ") {
-            return self.of_round(letters);
+        let (kind, text) = halves(machine, ' ')?;
+        if kind == "round" {
+            return self.of_round(text);
         }
-        let (states, steps) = machine
-            .strip_prefix("table ")
-            .and_then(|table| table.split_once(' '))
-            .ok_or_else(|| anyhow!("neither a round nor a table"))?;
+        let (states, steps) = halves(text, ' ')?;
         self.of_table(states, steps)
     }
 }
 
-pub(crate) fn passes(heap: Global, line: &str) -> anyhow::Result<bool> {
-    let sheet = sheet_of(line)?;
-    let mut areas = Areas::new(heap)?;
-    let mut chart = areas.chart();
-    if chart.fill(&sheet, 0).is_err() {
-        return Ok(false);
-    }
+// The answer over the machine of a line, under its signals and with its room.
+fn answer_of(heap: Global, chart: &Chart, line: &str) -> anyhow::Result<Answer> {
     let signals = bytes_of(heap, field(line, 3), ',')?;
     let question = Question {
         heap,
-        chart: &chart,
+        chart,
         signals: signals.as_slice(),
         room: field(line, 4).parse()?,
     };
-    let answer = question.of_machine(field(line, 2))?;
+    question.of_machine(field(line, 2))
+}
+
+pub(crate) fn passes(heap: Global, line: &str) -> anyhow::Result<bool> {
+    let mut areas = Areas::new();
+    let mut chart = areas.chart();
+    if fill(&mut chart, line)?.is_none() {
+        return Ok(false);
+    }
+    let answer = answer_of(heap, &chart, line)?;
     let text = format!(in heap; "{answer}")?;
     Ok(text.as_str() == field(line, 5))
 }

@@ -14,32 +14,30 @@ pub(crate) fn bytes_of(heap: Global, text: &str, separator: char) -> anyhow::Res
     Ok(bytes)
 }
 
-// Adds the states, START:LETTER parted by slashes.
-pub(crate) fn add_states(table: &mut Table, text: &str) -> anyhow::Result<()> {
-    for state in text.split('/') {
-        let (start, letter) = state
-            .split_once(':')
-            .ok_or_else(|| anyhow!("a state has no letter"))?;
-        let number = table.states();
-        table
-            .add_state(number, start == "1", letter.parse()?)
-            .map_err(|_| anyhow!("a state is refused"))?;
-    }
-    Ok(())
+// The two halves of a text.
+pub(crate) fn halves(text: &str, separator: char) -> anyhow::Result<(&str, &str)> {
+    text.split_once(separator)
+        .ok_or_else(|| anyhow!("`{separator}` is missing"))
 }
 
-// Adds the steps, FROM>TO parted by slashes; `-` for none.
-pub(crate) fn add_steps(table: &mut Table, text: &str) -> anyhow::Result<()> {
+// Adds a step FROM>TO, or a state START:LETTER.
+fn add(table: &mut Table, text: &str) -> anyhow::Result<()> {
+    let added = if let Some((from, to)) = text.split_once('>') {
+        table.add_step(from.parse()?, to.parse()?)
+    } else {
+        let (start, letter) = halves(text, ':')?;
+        table.add_state(table.states(), start == "1", letter.parse()?)
+    };
+    added.map_err(|_| anyhow!("`{text}` is refused"))
+}
+
+// Adds states or steps, parted by slashes; `-` for none.
+pub(crate) fn add_all(table: &mut Table, text: &str) -> anyhow::Result<()> {
     if text == "-" {
         return Ok(());
     }
-    for step in text.split('/') {
-        let (from, to) = step
-            .split_once('>')
-            .ok_or_else(|| anyhow!("a step has no end"))?;
-        table
-            .add_step(from.parse()?, to.parse()?)
-            .map_err(|_| anyhow!("a step is refused"))?;
+    for part in text.split('/') {
+        add(table, part)?;
     }
     Ok(())
 }

@@ -12,31 +12,47 @@ mod watches;
 use std::alloc::Global;
 use std::fs;
 
-// Runs a table: `passes` says of a line whether its case comes out as it says.
-fn run_table<F: Fn(Global, &str) -> anyhow::Result<bool>>(
-    rt: &HostRuntime,
-    path: &str,
-    passes: F,
-) -> anyhow::Result<()>
-    requires { F.IsAlwaysCallable passes }
-{
-    let text = fs::read_to_string(rt, path)?;
-    let mut passed: u32 = 0;
-    let mut failed: u32 = 0;
-    for line in text.as_str().lines().filter(|line| !line.starts_with('#')) {
-        if passes(rt.alloc(), line)? {
-            passed = passed.saturating_add(1);
-        } else {
-            failed = failed.saturating_add(1);
-            println!(rt; "{path}: {line}")?;
+// What the cases of a table are about.
+#[derive(Clone, Copy)]
+enum Cases {
+    Counts,
+    Watches,
+    Breaches,
+}
+
+impl Cases {
+    // Whether the case of a line comes out as the line says.
+    fn passes(self, heap: Global, line: &str) -> anyhow::Result<bool> {
+        match self {
+            Cases::Counts => counts::passes(heap, line),
+            Cases::Watches => watches::passes(heap, line),
+            Cases::Breaches => lookups::passes(heap, line),
         }
     }
-    println!(rt; "{path}: {passed} passed, {failed} failed")?;
-    Ok(())
+
+    // Runs all lines of a file, and prints those that fail, and how many there were.
+    fn run(self, rt: &HostRuntime, file: &str) -> anyhow::Result<()> {
+        let text = fs::read_to_string(rt, file)?;
+        let mut passed: u32 = 0;
+        let mut failed: u32 = 0;
+        for line in text.as_str().lines() {
+            if line.starts_with('#') {
+                continue;
+            }
+            if self.passes(rt.alloc(), line)? {
+                passed = passed.saturating_add(1);
+            } else {
+                failed = failed.saturating_add(1);
+                println!(rt; "{file}: {line}")?;
+            }
+        }
+        println!(rt; "{file}: {passed} passed, {failed} failed")?;
+        Ok(())
+    }
 }
 
 fn main(rt: HostRuntime) -> anyhow::Result<()> {
-    run_table(&rt, "counts.tsv", counts::passes)?;
-    run_table(&rt, "watch.tsv", watches::passes)?;
-    run_table(&rt, "breaches.tsv", lookups::passes)
+    Cases::Counts.run(&rt, "counts.tsv")?;
+    Cases::Watches.run(&rt, "watch.tsv")?;
+    Cases::Breaches.run(&rt, "breaches.tsv")
 }

@@ -1,18 +1,16 @@
 // Which scan of a list of letters breaks a watch.
 use crate::areas::Areas;
-use crate::sheets::{field, sheet_of};
-use anyhow::anyhow;
+use crate::machine::bytes_of;
+use crate::sheets::{field, fill};
 use charts::chart::Chart;
 use meaning::answers::Scanned;
+use meaning::refusals::ScanningFault;
 use std::alloc::Global;
 
 // The number of the scan that breaks the watch, from 0.
-fn breaking_scan(chart: &mut Chart, letters: &str) -> anyhow::Result<Option<usize>> {
-    for (number, letter) in letters.split(',').enumerate() {
-        let answer = chart
-            .scan(letter.parse()?)
-            .map_err(|_| anyhow!("a scan is refused"))?;
-        if answer == Scanned::Broken {
+fn breaking_scan(chart: &mut Chart, letters: &[u8]) -> Result<Option<usize>, ScanningFault> {
+    for (number, letter) in letters.iter().enumerate() {
+        if chart.scan(*letter)? == Scanned::Broken {
             return Ok(Some(number));
         }
     }
@@ -21,13 +19,13 @@ fn breaking_scan(chart: &mut Chart, letters: &str) -> anyhow::Result<Option<usiz
 
 // A line tells the scan from 1, and 0 where none breaks the watch.
 pub(crate) fn passes(heap: Global, line: &str) -> anyhow::Result<bool> {
-    let sheet = sheet_of(line)?;
-    let mut areas = Areas::new(heap)?;
+    let mut areas = Areas::new();
     let mut chart = areas.chart();
-    if chart.fill(&sheet, 0).is_err() || chart.begin().is_err() {
+    if fill(&mut chart, line)?.is_none() || chart.begin().is_err() {
         return Ok(false);
     }
-    let scan = breaking_scan(&mut chart, field(line, 2))?;
+    let letters = bytes_of(heap, field(line, 2), ',')?;
+    let scan = breaking_scan(&mut chart, letters.as_slice());
     let wanted = field(line, 3).parse::<usize>()?;
-    Ok(scan == wanted.checked_sub(1))
+    Ok(scan == Ok(wanted.checked_sub(1)))
 }
