@@ -1,5 +1,5 @@
 // Questions of an exploration that stay inside their ranges, so that each has an answer.
-ghost use Rattle.std.specs.Prelude.{◌≡◌, ℕ, ◌<◌, length, slice_index};
+ghost use Rattle.std.specs.Prelude.{◌≡◌, ◌<◌, length, slice_index};
 ghost use Rattle.pairs.specs.Stages.{bad};
 ghost use Rattle.breaches.specs.Charts.{reader_of, standings_of};
 

@@ -1,5 +1,5 @@
 // Walks by levels until one is a breach, or none is left, or a pair finds no room.
-ghost use Rattle.std.specs.Prelude.{◌≡◌, ℕ, ◌<◌, ◌≤◌, length};
+ghost use Rattle.std.specs.Prelude.{◌≡◌, ℕ, ◌<◌, length};
 ghost use Rattle.meaning.specs.Calls.{Machine as Called, History};
 ghost use Rattle.meaning.specs.Histories.{meaning_of};
 ghost use Rattle.meaning.specs.Right.{Right};

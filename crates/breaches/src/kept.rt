@@ -1,5 +1,5 @@
 // The pairs of walks that are kept, level by level: walks of one state, of two states, and so on.
-ghost use Rattle.std.specs.Prelude.{◌≡◌, ℕ, ◌+◌, ◌<◌, ◌≤◌, [], ◌∷◌, ◌++◌, length, take, drop, slice_index_or};
+ghost use Rattle.std.specs.Prelude.{◌≡◌, ◌+◌, ◌<◌, [], ◌∷◌, ◌++◌, length, take, drop, slice_index_or};
 ghost use Rattle.pairs.specs.Stages.{no_pair, nothing_kept, Keeps, Rooted, depth_at, chain};
 ghost use Rattle.breaches.specs.Counts.{tally_of};
 

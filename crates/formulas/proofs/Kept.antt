@@ -3,7 +3,7 @@ use Rattle.std.proofs.Common.{◌≡◌, ℕ, zero, suc, ◌+◌, ◌<◌, ◌�
 use mathlib.Core.Logic.{∥∥₁_map}
 use mathlib.Core.List.Memᴰ
 use mathlib.Core.List.{Memᴰ}
-use Rattle.logic.specs.Formula.{Formula, tru, fls, lit, and, or, next, until, release, Sub}
+use Rattle.logic.specs.Formula.{Formula, next, until, release, Sub}
 use Rattle.logic.specs.Formula as F
 use Rattle.logic.specs.Labels.{Kept, whole, a_next, an_until, a_release, an_operand, ListsKept}
 use Rattle.logic.proofs.Subs.{sub_trans, split, Proper}

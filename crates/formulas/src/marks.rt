@@ -1,5 +1,5 @@
 // Which nodes stand under a root, and which of them are kept of it.
-ghost use Rattle.std.specs.Prelude.{◌≡◌, ℕ, ◌<◌, ◌≤◌, length, Decides, MatchOption};
+ghost use Rattle.std.specs.Prelude.{◌≡◌, ◌<◌, ◌≤◌, length, Decides, MatchOption};
 ghost use Rattle.fixed.specs.Held.{held};
 ghost use Rattle.formulas.specs.Nodes.{Topological, Placed};
 ghost use Rattle.formulas.specs.Marks.{mark_parts, mark_kept, Marked, Picked, Beyond};

@@ -2,7 +2,7 @@
 // Loading (`loading`) and the reading of logs (`logs`) stand on it.
 #![tactic(auto)]
 
-ghost use Rattle.std.specs.Prelude.{◌≡◌, ℕ, ◌+◌, ◌-◌, ◌*◌, ◌<◌, ◌≤◌, List, [], ◌∷◌, ◌++◌, length, Some, None, codes, ◌==◌, position};
+ghost use Rattle.std.specs.Prelude.{◌≡◌, ◌+◌, ◌-◌, ◌*◌, ◌<◌, [], ◌∷◌, Some, None, codes, ◌==◌, position};
 ghost use Rattle.meaning.specs.Bytes.{after, number, parted};
 ghost use Rattle.meaning.specs.Files.{mapped, entry, of_fields, signals, rule};
 ghost use Rattle.lines.specs.Fields.{Cut, Two, Three, figure, cap, capped, fields_of, shown};

@@ -53,13 +53,6 @@ first_comma a b h =
 
 -- ---- numbers
 
-less_is : (limit m n : ℕ) → if_less limit m ≡ Some n → m ≡ n
-less_is limit m n e = go (nat_lt m limit) e
-  where
-    go : (b : Bool) → cond b (Some m) None ≡ Some n → m ≡ n
-    go true k = some_same m n k
-    go false k = absurd (no_some n k)
-
 -- a number below a limit has no commas and no spaces
 limited_lacks : (c limit : ℕ) (t : Text) (n : ℕ) → c < 48 → option_and_then (if_less limit) (number t) ≡ Some n → lacks c t ≡ true
 limited_lacks c limit t n low e = let k = then_some (if_less limit) (number t) n e in number_lacks c t k.0 low k.1

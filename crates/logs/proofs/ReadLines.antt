@@ -67,9 +67,6 @@ pub record ReadLines (log rest : Text) (ks : List (Option ℕ)) (cs : List (Call
   pub parts : parted 10 log ≡ before ++ parted 10 rest
   pub held : HoldsLines (map call before) ks cs
 
-pub no_lines_read : (log : Text) (ks : List (Option ℕ)) (cs : List (Call NoMachine)) → ks ≡ [] → cs ≡ [] → ReadLines log log ks cs
-no_lines_read log ks cs i j = record { before = []; parts = refl; held = record { calls_are = ap (map told) j; numbers_are = i } }
-
 pub line_read : (log rest line more : Text) (ks ks' : List (Option ℕ)) (cs cs' : List (Call NoMachine)) (r : ReadLines log rest ks cs)
     → parted 10 rest ≡ line ∷ parted 10 more → HoldsLines (map call r.before ++ (call line ∷ [])) ks' cs' → ReadLines log more ks' cs'
 line_read log rest line more ks ks' cs cs' r e h = record {

@@ -8,7 +8,7 @@ use native.Mathlib.Decide.{dec_lt}
 use Rattle.logic.specs.Formula.{Formula, tru, fls, lit, and, or, next, until, release, Sub, same}
 use Rattle.logic.specs.Formula as F
 use Rattle.logic.specs.Rule.{Rule, negated}
-use Rattle.logic.specs.Labels.{NoTwice, once, kept}
+use Rattle.logic.specs.Labels.{NoTwice, kept}
 use Rattle.logic.specs.Counting.{Classes, Exceeds}
 use Rattle.logic.proofs.Kept.{of_once, once_in, once_once, kept_listed, kept_once, at_place, no_twice_apart}
 use Rattle.logic.proofs.Tables.{not_both, part_above}

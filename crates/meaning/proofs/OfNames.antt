@@ -15,7 +15,7 @@ use Rattle.meaning.specs.Written.{IsBreachFormula}
 use Rattle.meaning.specs.Reading.{GoodNames}
 use Rattle.meaning.specs.Files.{Line, Entry, signals, rule, state, step, Content, Rooms, formed, added_if, content_from, content, lines, nothing, SaidOfLine, AllGood}
 use Rattle.meaning.specs.Calls.{Call, opening, entering, loading, filling, beginning, scanning, searching, Answer, History}
-use Rattle.meaning.specs.Histories.{at, names_after, names, Ruled, ruled, rule_at, filled_after, filled_rule}
+use Rattle.meaning.specs.Histories.{names_after, names, Ruled, ruled, rule_at, filled_after, filled_rule}
 use Rattle.meaning.specs.Right.{Right, AllRight}
 use Rattle.meaning.proofs.OfHistories.{at_keeps}
 use Rattle.meaning.proofs.OfReading.{texts_mean_one_rule}

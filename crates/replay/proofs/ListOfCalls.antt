@@ -48,9 +48,6 @@ right_more mean laws l (b ∷ cs) (x ∷ xs) c a h right one = (right.0, right_m
 new_led : (o : Objects) → AllNew o → ObjectsLed [] o
 new_led o new = record { sheets = new.sheets; tables = new.tables; charts = new.charts }
 
-pub nothing_replayed : {M : Type 0} (mean : M → Meaning) (laws : (m : M) → Lawful (mean m)) (o : Objects) → Replayed mean laws [] [] o o
-nothing_replayed mean laws o = record { same = refl; on_loan = refl; right = λ h led. tt; all_right = λ h led all. all; led = λ h led. led; from_new = λ new. tt }
-
 pub replayed_more : {M : Type 0} (mean : M → Meaning) (laws : (m : M) → Lawful (mean m)) (cs : List (Call M)) (xs : List Answer) (c : Call M) (a : Answer) (o o' o'' : Objects)
     → Replayed mean laws cs xs o o' → StepLed (meant mean laws (lent o') c) a o' o'' → Replayed mean laws (cs ++ (c ∷ [])) (xs ++ (a ∷ [])) o o''
 replayed_more mean laws cs xs c a o o' o'' p q =
