@@ -2,6 +2,7 @@
 use crate::areas::Areas;
 use crate::machine::{add_all, bytes_of, halves};
 use crate::sheets::{field, fill};
+use anyhow::anyhow;
 use breaches::find::find_breach;
 use charts::chart::Chart;
 use machines::machine::Machine;
@@ -86,11 +87,14 @@ impl Question<'_> {
     // The answer over the machine of a line: `round LETTERS`, or `table STATES STEPS`.
     fn of_machine(&self, machine: &str) -> anyhow::Result<Answer> {
         let (kind, text) = halves(machine, ' ')?;
-        if kind == "round" {
-            return self.of_round(text);
+        match kind {
+            "round" => self.of_round(text),
+            "table" => {
+                let (states, steps) = halves(text, ' ')?;
+                self.of_table(states, steps)
+            }
+            _ => Err(anyhow!("neither a round nor a table")),
         }
-        let (states, steps) = halves(text, ' ')?;
-        self.of_table(states, steps)
     }
 }
 
