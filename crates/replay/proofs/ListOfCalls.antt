@@ -1,5 +1,5 @@
 -- A list of calls with one more. Assumes nothing.
-use Rattle.std.proofs.Common.{◌≡◌, ℕ, ◌+◌, ◌<◌, List, [], ◌∷◌, ◌++◌, length, take, Some, None, Ok, Err, Option, refl, sym, ap, subst, ◌∙◌, slice_index_or}
+use Rattle.std.proofs.Common.{◌≡◌, ℕ, ◌+◌, ◌<◌, List, [], ◌∷◌, ◌++◌, length, take, Some, None, Ok, Err, Option, Result, inl, inr, refl, sym, ap, subst, ◌∙◌, slice_index_or}
 use Rattle.std.proofs.lemmas.List.{take_more}
 use Rattle.meaning.specs.Machines.{Meaning, Lawful}
 use Rattle.meaning.specs.Calls.{Call as Called, Answer as Given, History}
@@ -8,7 +8,7 @@ use Rattle.replay.specs.declared.call.Call.{Call}
 use Rattle.replay.specs.declared.answer.Answer.{Answer}
 use Rattle.replay.specs.Objects.{Objects, ObjectsLed, AllNew, Lent, lent}
 use Rattle.replay.specs.Meant.{MeantCall, meant, given}
-use Rattle.replay.specs.Replayed.{RightGiven, RightAnswer, with_given, with_answer, StepLed, history, RightAnswers, Replayed}
+use Rattle.replay.specs.Replayed.{RightGiven, RightAnswer, with_given, with_answer, OnSheet, OnTable, OnChart, StepLed, AnyOn, history, RightAnswers, Replayed}
 
 -- a right answer more
 given_right : (h : History) (c : Called) (g : Option (Given c)) → RightGiven h c g → AllRight h → AllRight (with_given c g h)
@@ -48,6 +48,18 @@ right_more mean laws l (b ∷ cs) (x ∷ xs) c a h right one = (right.0, right_m
 new_led : (o : Objects) → AllNew o → ObjectsLed [] o
 new_led o new = record { sheets = new.sheets; tables = new.tables; charts = new.charts }
 
+-- what a call of the list is made on, a call of a longer list is made on
+on_longer : {M : Type 0} (mean : M → Meaning) (laws : (m : M) → Lawful (mean m)) (l : Lent) (on : MeantCall → ℕ → Type 0) (cs ds : List (Call M)) (k : ℕ)
+    → AnyOn mean laws l on cs k → AnyOn mean laws l on (cs ++ ds) k
+on_longer mean laws l on [] ds k a = absurd a
+on_longer mean laws l on (c ∷ cs) ds k (inl a) = inl a
+on_longer mean laws l on (c ∷ cs) ds k (inr a) = inr (on_longer mean laws l on cs ds k a)
+
+on_last : {M : Type 0} (mean : M → Meaning) (laws : (m : M) → Lawful (mean m)) (l : Lent) (on : MeantCall → ℕ → Type 0) (cs : List (Call M)) (c : Call M) (k : ℕ)
+    → on (meant mean laws l c) k → AnyOn mean laws l on (cs ++ (c ∷ [])) k
+on_last mean laws l on [] c k a = inl a
+on_last mean laws l on (b ∷ cs) c k a = inr (on_last mean laws l on cs c k a)
+
 pub replayed_more : {M : Type 0} (mean : M → Meaning) (laws : (m : M) → Lawful (mean m)) (cs : List (Call M)) (xs : List Answer) (c : Call M) (a : Answer) (o o' o'' : Objects)
     → Replayed mean laws cs xs o o' → StepLed (meant mean laws (lent o') c) a o' o'' → Replayed mean laws (cs ++ (c ∷ [])) (xs ++ (a ∷ [])) o o''
 replayed_more mean laws cs xs c a o o' o'' p q =
@@ -59,6 +71,11 @@ replayed_more mean laws cs xs c a o o' o'' p q =
     record {
       same = step.same ∙ p.same;
       on_loan = step.on_loan ∙ p.on_loan;
+      others = record {
+        sheets = λ k ne. step.others.sheets k (λ a. ne (on_last mean laws l OnSheet cs c k a)) ∙ p.others.sheets k (λ a. ne (on_longer mean laws l OnSheet cs (c ∷ []) k a));
+        tables = λ k ne. step.others.tables k (λ a. ne (on_last mean laws l OnTable cs c k a)) ∙ p.others.tables k (λ a. ne (on_longer mean laws l OnTable cs (c ∷ []) k a));
+        charts = λ k ne. step.others.charts k (λ a. ne (on_last mean laws l OnChart cs c k a)) ∙ p.others.charts k (λ a. ne (on_longer mean laws l OnChart cs (c ∷ []) k a));
+      };
       right = λ h led. right_more mean laws l cs xs c a h (p.right h led) (one h led);
       all_right = all;
       led = λ h led. subst (λ k. ObjectsLed k o'') (sym (more h led)) (step.led (history mean laws l cs xs h) (p.led h led));

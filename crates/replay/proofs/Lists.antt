@@ -19,6 +19,14 @@ get_after_set (z ∷ xs) (suc i) x (suc k) y e =
       | inr p ↦ inr (λ (j : suc k ≡ suc i). p.0 (cc), p.1)
     ]
 
+-- a write leaves the other elements
+pub other_after_set : {X : Type 0} (xs : List X) (i : ℕ) (x : X) (k : ℕ) → (k ≡ i → ⊥) → slice_get (slice_set xs i x) k ≡ slice_get xs k
+other_after_set [] i x k ne = refl
+other_after_set (z ∷ xs) zero x zero ne = absurd (ne refl)
+other_after_set (z ∷ xs) zero x (suc k) ne = refl
+other_after_set (z ∷ xs) (suc i) x zero ne = refl
+other_after_set (z ∷ xs) (suc i) x (suc k) ne = other_after_set xs i x k (λ e. ne (ap suc e))
+
 -- a write of an element with the same image keeps the images
 pub map_after_set : {X Y : Type 0} (f : X → Y) (xs : List X) (i : ℕ) (old new : X) → slice_get xs i ≡ Some old → f new ≡ f old → map f (slice_set xs i new) ≡ map f xs
 map_after_set f [] i old new g e = refl

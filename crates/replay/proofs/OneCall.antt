@@ -1,5 +1,5 @@
 -- One call of the list leaves every object as the longer list says. Assumes nothing.
-use Rattle.std.proofs.Common.{arith, ◌≡◌, ℕ, ◌<◌, List, ◌∷◌, map, length, inl, inr, Some, None, Ok, Err, Option, Result, refl, sym, ap, subst, ◌∙◌, nat_lt, slice_get, slice_index_or, slice_set, replicate, IfOk}
+use Rattle.std.proofs.Common.{◌≡◌, ℕ, ◌<◌, List, ◌∷◌, map, length, inl, inr, Some, None, Ok, Err, Option, Result, refl, sym, ap, subst, ◌∙◌, nat_lt, slice_get, slice_index_or, slice_set, replicate, IfOk}
 use Rattle.std.proofs.lemmas.Bool.{cond-true, lt-ltb}
 use Rattle.std.proofs.lemmas.List.{length-set, length-map}
 use Rattle.meaning.specs.declared.refusals.NamesFault.{NamesFault}
@@ -27,7 +27,7 @@ use Rattle.replay.specs.Objects.{Objects, objects, ObjectsLed, lent, table_loans
 use Rattle.replay.specs.Meant.{MeantCall, given, searching_with, if_below, if_there, opening_at, entering_at, loading_at, filling_at, beginning_at, scanning_at}
 use Rattle.replay.specs.Looks.{LooksOn}
 use Rattle.replay.specs.Replayed.{RightGiven, with_given, StepLed}
-use Rattle.replay.proofs.Lists.{get_at, get_after_set, map_after_set, get_mapped}
+use Rattle.replay.proofs.Lists.{get_at, get_after_set, other_after_set, map_after_set, get_mapped}
 use Rattle.replay.proofs.Stay.{sheet_stays, table_stays, chart_stays}
 
 -- ---- all objects of a kind
@@ -88,8 +88,9 @@ there_made o x f e = ap (λ p. if_there p f) e
 none : (k : ℕ) → None ≡ Some k → ⊥
 none k e = cc
 
-made_not : {X : Type 0} (c : Call) (why : Answer) → ◌≡◌ {A = MeantCall} (Ok c) (Err why) → X
-made_not c why e = absurd (grind arith)
+-- a write of the object that a call is made on leaves the others
+others_after : {X : Type 0} (xs : List X) (n : ℕ) (x : X) (on : Option ℕ) → on ≡ Some n → (k : ℕ) → (on ≡ Some k → ⊥) → slice_get (slice_set xs n x) k ≡ slice_get xs k
+others_after xs n x on i k ne = other_after_set xs n x k (λ e. ne (i ∙ ap Some (sym e)))
 
 -- ---- the calls of each kind
 
@@ -104,7 +105,7 @@ opened ss n d s' t r l f ts cs =
     subst (λ (c : MeantCall). StepLed c (Opened r) o o') (sym (below_made n (length ss) (Ok (opening n t)) l)) (record {
       same = ap (λ k. record { sheets = k; rooms = map rooms_of ts; areas = map areas cs }) (length-set ss n s');
       on_loan = refl;
-      unmade = λ why e. made_not (opening n t) why e;
+      others = record { sheets = others_after ss n s' (Some n) refl; tables = λ k ne. refl; charts = λ k ne. refl };
       right = λ h led. (f h n (led.sheets n s g)).0;
       led = λ h led. let v : Event = record { call = opening n t; answer = r } in record {
         sheets = sheets_set h v ss n s' refl (f h n (led.sheets n s g)).1 led.sheets;
@@ -124,7 +125,7 @@ entered ss n d s' t r l f ts cs =
     subst (λ (c : MeantCall). StepLed c (Entered r) o o') (sym (below_made n (length ss) (Ok (entering n t)) l)) (record {
       same = ap (λ k. record { sheets = k; rooms = map rooms_of ts; areas = map areas cs }) (length-set ss n s');
       on_loan = refl;
-      unmade = λ why e. made_not (entering n t) why e;
+      others = record { sheets = others_after ss n s' (Some n) refl; tables = λ k ne. refl; charts = λ k ne. refl };
       right = λ h led. (f h n (led.sheets n s g)).0;
       led = λ h led. let v : Event = record { call = entering n t; answer = r } in record {
         sheets = sheets_set h v ss n s' refl (f h n (led.sheets n s g)).1 led.sheets;
@@ -150,7 +151,7 @@ loaded ss ts n y d s' e t' file r l k f same cs =
       same = ap (λ k. record { sheets = k; rooms = map rooms_of (slice_set ts y t'); areas = map areas cs }) (length-set ss n s')
           ∙ ap (λ rs. record { sheets = length ss; rooms = rs; areas = map areas cs }) (map_after_set rooms_of ts y t t' g same.0);
       on_loan = ap (λ k. record { tables = k; charts = map chart_loans cs }) (map_after_set table_loans ts y t t' g (tables_on_loan t t' same));
-      unmade = λ why e. made_not (loading n y (rooms_of t) file) why e;
+      others = record { sheets = others_after ss n s' (Some n) refl; tables = others_after ts y t' (Some y) refl; charts = λ m ne. refl };
       right = λ h led. (f h n y).0;
       led = λ h led. let v : Event = record { call = loading n y (rooms_of t) file; answer = r } in record {
         sheets = sheets_set h v ss n s' refl (f h n y).1 led.sheets;
@@ -179,7 +180,7 @@ on_chart c x a ss ts cs n d d' is i j k g e q f =
     record {
       same = ap (λ as'. record { sheets = length ss; rooms = map rooms_of ts; areas = as' }) (map_after_set areas cs n d d' g e);
       on_loan = ap (λ k. record { tables = map table_loans ts; charts = k }) (map_after_set chart_loans cs n d d' g q);
-      unmade = λ why i. made_not c why i;
+      others = record { sheets = λ m ne. refl; tables = λ m ne. refl; charts = others_after cs n d' (chart_of c) k };
       right = λ h led. subst (λ z. RightGiven h c z) (sym is) (f h led.sheets (led.charts n d g)).0;
       led = λ h led. subst (λ z. ObjectsLed (with_given c z h) o') (sym is) (record {
         sheets = sheets_stay h v ss (λ m p. none m (sym i ∙ p)) led.sheets;
@@ -245,14 +246,14 @@ looked_step : (n pairs walk : ℕ) (k : Result Machine Answer) (a : Answer) (c :
 looked_step n pairs walk (Ok m) a c o g looks = record {
   same = refl;
   on_loan = refl;
-  unmade = λ why e. refl;
+  others = record { sheets = λ m ne. refl; tables = λ m ne. refl; charts = λ m ne. refl };
   right = λ h led. looks h n (led.charts n c g) led.tables;
   led = λ h led. looked_on (searching n m pairs (replicate walk 0)) (given (searching n m pairs (replicate walk 0)) a) h o refl refl refl (looks h n (led.charts n c g) led.tables) led;
 }
 looked_step n pairs walk (Err why) a c o g looks = record {
   same = refl;
   on_loan = refl;
-  unmade = λ why e. refl;
+  others = record { sheets = λ m ne. refl; tables = λ m ne. refl; charts = λ m ne. refl };
   right = λ h led. looks h n (led.charts n c g) led.tables;
   led = λ h led. led;
 }
