@@ -1,5 +1,6 @@
 // The watch of a chart.
-ghost use Rattle.std.specs.Prelude.{◌≡◌, ℕ};
+ghost use Rattle.std.specs.Prelude.{◌≡◌, ◌<◌, ℕ};
+ghost use Rattle.charting.specs.Filled.{after, breached};
 ghost use Rattle.meaning.specs.Calls.{History, beginning, scanning};
 ghost use Rattle.charts.specs.Watch.{begun, scanned, reacted};
 ghost use Rattle.charts.specs.Watched.{Begun, Scans};
@@ -7,6 +8,7 @@ ghost use Rattle.charts.specs.Kept.{SameAreas};
 ghost use Rattle.charts.specs.Led.{ChartLed, Answered};
 
 use crate::chart::Chart;
+use crate::standings::has_label;
 use crate::state::{Event, State};
 use meaning::answers::Scanned;
 use meaning::refusals::{BeginningFault, ScanningFault};
@@ -34,6 +36,23 @@ impl<'a> Chart<'a> {
         self.react(Event::Scan { letter })
     }
 
+    // The standing one letter after one of the chart's own: what `next` answers, with no range to ask for.
+    fn standing_after(&self, standing: u16, letter: u8) -> u16
+        requires { standing < self.now.standing_count }
+        ensures { result ≡ after self.now.next.now standing letter }
+    {
+        self.next[standing as usize * 256 + letter as usize]
+    }
+
+    // Whether the words that lead to one of the chart's own standings are breaches: what `says_breach` answers.
+    fn is_breach(&self, standing: u16) -> bool
+        requires { standing < self.now.standing_count }
+        ensures { result ≡ breached self.now.standings.now standing }
+    {
+        let standings = &*self.standings;
+        has_label(&standings[standing as usize], 0)
+    }
+
     // What an event does at each state.
     // Kept: a rule of the project has the chart match its own state together with the event.
     fn react(&mut self, event: Event) -> Result<Scanned, ScanningFault>
@@ -49,8 +68,8 @@ impl<'a> Chart<'a> {
             (State::Ready, Event::Scan { .. }) => Err(ScanningFault::NoWatch),
             (State::Broken, Event::Scan { .. }) => Err(ScanningFault::AlreadyBroken),
             (State::Watching { standing: from }, Event::Scan { letter }) => {
-                let standing = self.next(from, letter).unwrap();
-                if self.says_breach(standing).unwrap() {
+                let standing = self.standing_after(from, letter);
+                if self.is_breach(standing) {
                     self.state = State::Broken;
                     Ok(Scanned::Broken)
                 } else {
