@@ -19,10 +19,11 @@ fn is_lowercase(word: &[u8]) -> bool
 fn name_of(word: &[u8]) -> Option<Name>
     ensures { NameIs word.now result }
 {
+    // The length first: of a long word no letter is looked at.
+    let letters = FixedList::from_slice(0, word)?;
     if word.is_empty() || !is_lowercase(word) || fixed_word(word).is_some() {
         return None;
     }
-    let letters = FixedList::from_slice(0, word)?;
     Some(Name { letters })
 }
 
