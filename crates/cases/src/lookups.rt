@@ -1,8 +1,7 @@
 // Breaches of tables and rounds, under up to three stuck layers, with a given pair room.
 use crate::areas::Areas;
-use crate::machine::{add_all, bytes_of, halves};
+use crate::machine::{add_states, add_steps, bytes_of};
 use crate::sheets::{field, fill};
-use anyhow::anyhow;
 use breaches::find::find_breach;
 use charts::chart::Chart;
 use machines::machine::Machine;
@@ -79,22 +78,19 @@ impl Question<'_> {
         let mut states_area = [State::BLANK; 256];
         let mut steps_area = [Step::BLANK; 1024];
         let mut table = Table::new(&mut states_area, &mut steps_area);
-        add_all(&mut table, states)?;
-        add_all(&mut table, steps)?;
+        add_states(&mut table, states)?;
+        add_steps(&mut table, steps)?;
         Ok(self.look_under_layers(&table))
     }
 
-    // The answer over the machine of a line: `round LETTERS`, or `table STATES STEPS`.
+    // The answer over the machine of a line: `round LETTERS`, or `table STATES STEPS`. What follows is not read.
     fn of_machine(&self, machine: &str) -> anyhow::Result<Answer> {
-        let (kind, text) = halves(machine, ' ')?;
-        match kind {
-            "round" => self.of_round(text),
-            "table" => {
-                let (states, steps) = halves(text, ' ')?;
-                self.of_table(states, steps)
-            }
-            _ => Err(anyhow!("neither a round nor a table")),
+        let mut words = machine.split(' ').skip(1);
+        let first = words.next().unwrap_or("");
+        if machine.starts_with("round") {
+            return self.of_round(first);
         }
+        self.of_table(first, words.next().unwrap_or(""))
     }
 }
 

@@ -14,30 +14,43 @@ pub(crate) fn bytes_of(heap: Global, text: &str, separator: char) -> anyhow::Res
     Ok(bytes)
 }
 
-// The two halves of a text.
-pub(crate) fn halves(text: &str, separator: char) -> anyhow::Result<(&str, &str)> {
-    text.split_once(separator)
-        .ok_or_else(|| anyhow!("`{separator}` is missing"))
+// The first two parts of a text, an empty one where there is none; what follows a second separator is not read.
+pub(crate) fn two_parts(text: &str, separator: char) -> (&str, &str) {
+    let mut parts = text.split(separator);
+    let first = parts.next().unwrap_or("");
+    (first, parts.next().unwrap_or(""))
 }
 
-// Adds a step FROM>TO, or a state START:LETTER.
-fn add(table: &mut Table, text: &str) -> anyhow::Result<()> {
-    let added = if let Some((from, to)) = text.split_once('>') {
-        table.add_step(from.parse()?, to.parse()?)
-    } else {
-        let (start, letter) = halves(text, ':')?;
-        table.add_state(table.states(), start == "1", letter.parse()?)
-    };
-    added.map_err(|_| anyhow!("`{text}` is refused"))
+// Adds a state START:LETTER.
+fn add_state(table: &mut Table, text: &str) -> anyhow::Result<()> {
+    let (start, letter) = two_parts(text, ':');
+    table
+        .add_state(table.states(), start == "1", letter.parse()?)
+        .map_err(|_| anyhow!("a state is refused"))
 }
 
-// Adds states or steps, parted by slashes; `-` for none.
-pub(crate) fn add_all(table: &mut Table, text: &str) -> anyhow::Result<()> {
-    if text == "-" {
-        return Ok(());
+// Adds a step FROM>TO.
+fn add_step(table: &mut Table, text: &str) -> anyhow::Result<()> {
+    let (from, to) = two_parts(text, '>');
+    table
+        .add_step(from.parse()?, to.parse()?)
+        .map_err(|_| anyhow!("a step is refused"))
+}
+
+// Adds states, parted by slashes.
+pub(crate) fn add_states(table: &mut Table, text: &str) -> anyhow::Result<()> {
+    for state in text.split('/') {
+        add_state(table, state)?;
     }
-    for part in text.split('/') {
-        add(table, part)?;
+    Ok(())
+}
+
+// Adds steps, parted by slashes; `-` for none.
+pub(crate) fn add_steps(table: &mut Table, text: &str) -> anyhow::Result<()> {
+    if text != "-" {
+        for step in text.split('/') {
+            add_step(table, step)?;
+        }
     }
     Ok(())
 }

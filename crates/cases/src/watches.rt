@@ -1,16 +1,18 @@
 // Which scan of a list of letters breaks a watch.
 use crate::areas::Areas;
-use crate::machine::bytes_of;
 use crate::sheets::{field, fill};
+use anyhow::anyhow;
 use charts::chart::Chart;
 use meaning::answers::Scanned;
-use meaning::refusals::ScanningFault;
 use std::alloc::Global;
 
-// The number of the scan that breaks the watch, from 0.
-fn breaking_scan(chart: &mut Chart, letters: &[u8]) -> Result<Option<usize>, ScanningFault> {
-    for (number, letter) in letters.iter().enumerate() {
-        if chart.scan(*letter)? == Scanned::Broken {
+// The number of the scan that breaks the watch, from 0; letters behind it are not read.
+fn breaking_scan(chart: &mut Chart, letters: &str) -> anyhow::Result<Option<usize>> {
+    for (number, letter) in letters.split(',').enumerate() {
+        let answer = chart
+            .scan(letter.parse()?)
+            .map_err(|_| anyhow!("a scan is refused"))?;
+        if answer == Scanned::Broken {
             return Ok(Some(number));
         }
     }
@@ -24,8 +26,10 @@ pub(crate) fn passes(heap: Global, line: &str) -> anyhow::Result<bool> {
     if fill(&mut chart, line)?.is_none() || chart.begin().is_err() {
         return Ok(false);
     }
-    let letters = bytes_of(heap, field(line, 2), ',')?;
-    let scan = breaking_scan(&mut chart, letters.as_slice());
-    let wanted = field(line, 3).parse::<usize>()?;
-    Ok(scan == Ok(wanted.checked_sub(1)))
+    let scan = breaking_scan(&mut chart, field(line, 2))?.map_or(
+        0,
+        |number| number.saturating_add(1),
+    );
+    let text = format!(in heap; "{scan}")?;
+    Ok(text.as_str() == field(line, 3))
 }
